@@ -7,7 +7,7 @@ MEASURED_PROCESSORS = 4
 # Seconds of each crate in that build: of the processor if one processor built the crate; of the clock for pc_top, which four
 # processors built, and for pc_cli.
 SECONDS = {
-    "pc_lists": 6,
+    "pc_base": 6,
     "pc_refusal_lines": 8,
     "pc_io": 122,
     "pc_caps": 41,
@@ -44,7 +44,7 @@ SECONDS = {
     "pc_rules": 181,
     "pc_referee": 18,
     "pc_check": 84,
-    "pc_conditions": 170,
+    "pc_explain_conditions": 170,
     "pc_judge": 39,
     "pc_feed": 88,
     "pc_places": 119,
@@ -71,14 +71,14 @@ SECONDS = {
     "pc_outcome_laws": 6,
     "pc_args": 138,
     "pc_refusals": 166,
-    "pc_window": 59,
+    "pc_explain_window": 59,
     "pc_explain_names": 304,
-    "pc_words": 138,
-    "pc_parts": 106,
-    "pc_sentences": 188,
-    "pc_hints": 159,
+    "pc_explain_words": 138,
+    "pc_explain_parts": 106,
+    "pc_explain_sentences": 188,
+    "pc_explain_hints": 159,
     "pc_explain": 270,
-    "pc_core_commands": 279,
+    "pc_commands": 279,
     "pc_top": 472,
     "pc_cli": 475,
 }

@@ -18,12 +18,12 @@ CONTRACT = [
 
 # The definitions of commands that came after the limits on these counts had been set, by command.
 LATER_COMMANDS = {
-    "explain": [("pc_top", "Commands/Explain"), ("pc_core_commands", "Explain")],
-    "events": [("pc_top", "Commands/Events"), ("pc_core_commands", "Events")],
+    "explain": [("pc_top", "Commands/Explain"), ("pc_commands", "Explain")],
+    "events": [("pc_top", "Commands/Events"), ("pc_commands", "Events")],
     "places": [("pc_top", "Commands/Places")],
-    "schedule": [("pc_top", "Commands/Schedule"), ("pc_core_commands", "Schedule")],
-    "play": [("pc_top", "Commands/Play"), ("pc_core_commands", "Play")],
-    "outcomes": [("pc_top", "Commands/Outcomes"), ("pc_core_commands", "Outcomes")],
+    "schedule": [("pc_top", "Commands/Schedule"), ("pc_commands", "Schedule")],
+    "play": [("pc_top", "Commands/Play"), ("pc_commands", "Play")],
+    "outcomes": [("pc_top", "Commands/Outcomes"), ("pc_commands", "Outcomes")],
 }
 
 

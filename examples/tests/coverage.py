@@ -9,7 +9,7 @@ import refused
 REASON = re.compile(r".*? has (?:no type|none): (.*)")
 
 # Where the code lists the conditions and the hints.
-CODE = {"Condition": "crates/pc_conditions/src/condition.rt", "Hint": "crates/pc_hints/src/hint.rt"}
+CODE = {"Condition": "crates/pc_explain_conditions/src/condition.rt", "Hint": "crates/pc_explain_hints/src/hint.rt"}
 VARIANT = re.compile(r"^    ([A-Z]\w*)[(,]", re.MULTILINE)
 
 

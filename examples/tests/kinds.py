@@ -48,7 +48,7 @@ def both(*conditions):
     return of("the left side", *conditions) + of("the right side", *conditions)
 
 
-# The sentence of each condition of `pc_conditions`. PART is the part that it is about.
+# The sentence of each condition of `pc_explain_conditions`. PART is the part that it is about.
 CONDITIONS = {
     "Typed": "PART has no type: PIECE",
     "Under": "PART is AN_ENTITY, which is not below ENTITY, the entity of GOAL(?:: (?:it has no function `NAME`|for ENTITY\\.NAME, PIECE))?",
@@ -183,7 +183,7 @@ OTHERS = {
 
 USED_UP = "it has the form FORM, and after it the name cannot be used"
 
-# The hints of `pc_hints`. Three have the same words, and are known by their rule.
+# The hints of `pc_explain_hints`. Three have the same words, and are known by their rule.
 HINTS = {
     "SayIs": "let ENTITY say `is ENTITY`",
     "Consume": f"write `consume PIECE`: {USED_UP}",

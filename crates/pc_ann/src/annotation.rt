@@ -1,6 +1,7 @@
 //! What a derivation states about a core.
 
-use pc_caps::{Cap, Form, List};
+use pc_base::List;
+use pc_caps::{Cap, Form};
 use pc_masks::Mask;
 
 /// The typing rules. Each applies to one kind of node, or to a few. Rules that the paper of 2015 does not have are this

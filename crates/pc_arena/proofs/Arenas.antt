@@ -1,7 +1,6 @@
 -- An arena stays sound, and its values afterwards.
 use Rattle.std.proofs.Common.{◌≡◌, ℕ, zero, suc, ◌+◌, ◌-◌, ◌*◌, ◌/◌, ◌%◌, ◌<◌, ◌≤◌, List, [], ◌∷◌, ◌++◌, length, set, get_or, replicate, slice_get, sym, ap, ◌∙◌, subst, arith, refl, length-append, length-set}
-use Rattle.pc_arena.specs.Chunks.{chunk_size}
-use Rattle.pc_arena.specs.Arenas.{place_limit, joined, chunked, Grown, Sound}
+use Rattle.pc_arena.specs.{Chunks.chunk_size, Arenas.{place_limit, joined, chunked, Grown, Sound}}
 use Rattle.pc_arena.proofs.Chunked.{length-chunked, joined_chunked, more_chunks, chunk_at, part, within_part, length_part, get_part, put_part, push_part}
 
 pub one_more : {X : Type 0} (n : ℕ) (x : X) → replicate n x ++ x ∷ [] ≡ replicate (suc n) x

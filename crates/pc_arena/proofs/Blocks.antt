@@ -1,11 +1,9 @@
 -- A row without values: it owns what an allocator hands over, and what the allocator requires back.
-use Rattle.pc_arena.proofs.Steps.{◌≡◌, refl, sym, ℕ, ◌+◌, ◌*◌, ◌<◌, ◌^◌, arith, List, [], ◌∷◌, Ura, Fml, froom, ent, sep, emp, never, id⊢, Ty, ty_array, bare, align, capped, vstruct, vnil, WT, Logic, sem, Goal, Item, Seq, ‵, ◌$◌, ◌∵◌, !, qed, by, drop, use0, fsplit, fsplit3, fjoin, flt_i, flt_l, rewrite, done, lone, param, RattleType, block_ptr, in_a_block, makes_shadow, nothing, type_size, Ghosts, Ok, Err}
+use Rattle.pc_arena.proofs.{Steps.{◌≡◌, refl, sym, ℕ, ◌+◌, ◌*◌, ◌<◌, ◌^◌, arith, List, [], ◌∷◌, Ura, Fml, froom, ent, sep, emp, never, id⊢, Ty, ty_array, bare, align, capped, vstruct, vnil, WT, Logic, sem, Goal, Item, Seq, ‵, ◌$◌, ◌∵◌, !, qed, by, drop, use0, fsplit, fsplit3, fjoin, flt_i, flt_l, rewrite, done, lone, param, RattleType, block_ptr, in_a_block, makes_shadow, nothing, type_size, Ghosts, Ok, Err}, Opened.{Owner, Fields, row_val, fields_made}, Results.{variant, ok_owns, err_owns}}
 use Rattle.std.specs.contracts.alloc.AllocError as error
 use Rattle.std.specs.contracts.result.Result as result
 use Rattle.std.proofs.Common.{zero-mul}
 use Rattle.pc_arena.specs.Ownership.{row_size, row_owned}
-use Rattle.pc_arena.proofs.Opened.{Owner, Fields, row_val, fields_made}
-use Rattle.pc_arena.proofs.Results.{variant, ok_owns, err_owns}
 
 module _ (T Z : RattleType) (g : Ghosts Z.Denot) where
   abbrev R : RattleType

@@ -1,8 +1,6 @@
 -- Values in chunks that are filled in order: which chunk has the value at a place, and how a write to a chunk changes
 -- the values.
-use Rattle.std.proofs.Common.{◌≡◌, ℕ, zero, suc, ◌+◌, ◌*◌, ◌<◌, ◌≤◌, List, [], ◌∷◌, ◌++◌, length, take, drop, set, get_or, replicate, slice_get, refl, sym, ap, ◌∙◌, arith, length-append, length-take, length-drop}
-use Rattle.std.proofs.lemmas.List.{take-set-le, drop-set-lt, drop-set-add, take-append-drop, take-append-le, drop-append-le, take_all}
-use Rattle.std.proofs.Math.Seq.{take-set-lt, drop-drop, drop-nil}
+use Rattle.std.proofs.{Common.{◌≡◌, ℕ, zero, suc, ◌+◌, ◌*◌, ◌<◌, ◌≤◌, List, [], ◌∷◌, ◌++◌, length, take, drop, set, get_or, replicate, slice_get, refl, sym, ap, ◌∙◌, arith, length-append, length-take, length-drop}, lemmas.List.{take-set-le, drop-set-lt, drop-set-add, take-append-drop, take-append-le, drop-append-le, take_all}, Math.Seq.{take-set-lt, drop-drop, drop-nil}}
 use native.Mathlib.Nat.{zero-mul, suc-mul}
 use Rattle.pc_arena.specs.Arenas.{joined, chunked}
 

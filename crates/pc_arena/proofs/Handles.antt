@@ -1,14 +1,11 @@
 -- An allocator that is lent: a row is requested, and its block is given back.
-use Rattle.pc_arena.proofs.Steps.{Post, runs, lands, settles, Opds, Env, Dict, Place, Operand, ◌≡◌, sym, subst, ℕ, ◌<◌, ◌^◌, arith, List, [], ◌∷◌, Ura, Lft, Share, flft, ent, sep, Ty, Body, align, capped_fits, Val, vint, vptr, vunit, vstruct, vnil, w64, Logic, sem, Item, Seq, Step, step, ‵, raw, later, given, ◌⊛◌, ◌$◌, use1, use2, split, group, learn, await, lone, hidden_shr, param, Laws, RattleType, calls_at, calls_at_last, tables, framed, Ghosts, ◌⊑◌}
+use Rattle.pc_arena.proofs.{Steps.{Post, runs, lands, settles, Opds, Env, Dict, Place, Operand, ◌≡◌, sym, subst, ℕ, ◌<◌, ◌^◌, arith, List, [], ◌∷◌, Ura, Lft, Share, flft, ent, sep, Ty, Body, align, capped_fits, Val, vint, vptr, vunit, vstruct, vnil, w64, Logic, sem, Item, Seq, Step, step, ‵, raw, later, given, ◌⊛◌, ◌$◌, use1, use2, split, group, learn, await, lone, hidden_shr, param, Laws, RattleType, calls_at, calls_at_last, tables, framed, Ghosts, ◌⊑◌}, Fills.{row_bytes, row_aligned}, Blocks.{block, bytes, alignment, Room, Token, Empty, begun}, Results.variant}
 use contract.Running.{MachineTables, Running}
 use denote.Triple.Statement.{Contract}
 use mir.Syntax.{seq, call}
 use prog.Model.{Model}
 use Rattle.std.specs.contracts.alloc.Allocator.TheBound.{Met}
 use Rattle.std.proofs.alloc.Calls.{Al, Takes, Gives, at_takes, at_gives, takes_key, gives_key, Answered, answers, Takes-goes, Takes-gives, Gives-goes, Gives-Gives}
-use Rattle.pc_arena.proofs.Fills.{row_bytes, row_aligned}
-use Rattle.pc_arena.proofs.Blocks.{block, bytes, alignment, Room, Token, Empty, begun}
-use Rattle.pc_arena.proofs.Results.{variant}
 
 module _ (T Z : RattleType) (LZ : Laws Z) (g : Ghosts Z.Denot) (methods drops : Dict) {M : Type 1} {𝓤 : Ura M} (𝓛 : Logic 𝓤) (𝓜 : Model 𝓤 𝓛.H) (𝓡 : Running 𝓤 𝓛.H 𝓜) (met : Met 𝓛 𝓜 𝓡 𝓡.env Z g methods)
     (κ : Lft) (q : Share) (p : ℕ × ℕ) (a : Z.Denot) (lives : κ ⊑ Z.lives) (short : bytes T Z g < 2 ^ 63) where

@@ -14,8 +14,7 @@ use mir.Syntax.{Ty, ty_array}
 use seplogic.Ra.Ura.{Ura}
 use types.Logic.{Logic}
 use Prim.Native.Nat.{ℕ, ◌+◌}
-use Rattle.std.specs.Mem.{type_size}
-use Rattle.std.specs.Prelude.{List, [], ◌∷◌}
+use Rattle.std.specs.{Mem.type_size, Prelude.{List, [], ◌∷◌}}
 use Rattle.pc_arena.specs.Ownership.{row_size, short, unwritten, row_owned, lent_from, row_lent}
 
 module _ (R : RattleType) where

@@ -1,6 +1,5 @@
 -- An arena as contracts see it, and the invariant inside it.
-use Rattle.std.specs.Prelude.{◌≡◌, ℕ, zero, suc, ◌+◌, ◌*◌, ◌<◌, ◌≤◌, List, [], ◌∷◌, ◌++◌, length, take, drop, replicate, refl}
-use Rattle.std.specs.Coded.{Coded, code_by, coded×, coded_list, coded_ℕ}
+use Rattle.std.specs.{Prelude.{◌≡◌, ℕ, zero, suc, ◌+◌, ◌*◌, ◌<◌, ◌≤◌, List, [], ◌∷◌, ◌++◌, length, take, drop, replicate, refl}, Coded.{Coded, code_by, coded×, coded_list, coded_ℕ}}
 use Rattle.pc_arena.specs.Chunks.{chunk_size}
 
 -- the values, from the first, and how many more can be pushed

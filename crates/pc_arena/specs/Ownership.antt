@@ -8,8 +8,7 @@ use denote.RawPtr.{Ptr, null_ptr, block_ptr}
 use denote.Sharing.{beside, nothing, said}
 use mir.Raw.{raw}
 use mir.Syntax.{Ty, ty_array}
-use Rattle.std.specs.Prelude.{ℕ, ◌+◌, ◌-◌, ◌*◌, ◌^◌, List, [], ◌∷◌, length}
-use Rattle.std.specs.Mem.{type_size}
+use Rattle.std.specs.{Prelude.{ℕ, ◌+◌, ◌-◌, ◌*◌, ◌^◌, List, [], ◌∷◌, length}, Mem.type_size}
 
 -- how many values a row has memory for
 abbrev pub row_size : ℕ

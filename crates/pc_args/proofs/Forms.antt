@@ -1,15 +1,10 @@
 -- The written forms are taken, and their matches are the names; and each subcommand of the command line asks for something.
-use Rattle.std.proofs.Common.{◌≡◌, ◌∙◌, ℕ, Bool, cond, List, [], ◌∷◌, Option, Some, None, true, false, not, ◌&&◌, refl, ap, nat_eq, option_map}
+use Rattle.std.proofs.{Common.{◌≡◌, ◌∙◌, ℕ, Bool, cond, List, [], ◌∷◌, Option, Some, None, true, false, not, ◌&&◌, refl, ap, nat_eq, option_map}, lemmas.Bool.not-true}
 use Rattle.std.specs.Prelude.{codes, find, if◌then◌else◌, option_and_then}
-use Rattle.clap.specs.Simple.{App, Shape, argument_words, built, entered, label_of, names_of, rows_at}
-use Rattle.clap.specs.Walk.{answers_to, stop_after}
-use Rattle.clap.specs.Words.{Row, fault_of, subcommand_of, takes}
+use Rattle.clap.specs.{Simple.{App, Shape, argument_words, built, entered, label_of, names_of, rows_at}, Walk.{answers_to, stop_after}, Words.{Row, fault_of, subcommand_of, takes}}
 use Rattle.clap.proofs.OnLiterals.{clap_on_literals}
-use Rattle.pc_lists.specs.Lists.{Text}
-use Rattle.pc_args.specs.Asked.{Asked, check, command_of, events, explain, has_fault, is_refused, judge, make, asked_by_name, outcomes, places, play, run, schedule_of, sends, show, swap, trace, upgrade}
-use Rattle.pc_args.specs.Forms.{AskFor, WrittenFormsAreTaken, check_words, events_words, explain_words, is_plain, judge_words, make_words, outcomes_words, places_words, play_words, run_words, schedule_words, sends_words, show_words, swap_words, trace_words, upgrade_words}
-use Rattle.pc_args.specs.Line.{rcap}
-use Rattle.std.proofs.lemmas.Bool.{not-true}
+use Rattle.pc_base.specs.Lists.{Text}
+use Rattle.pc_args.specs.{Asked.{Asked, check, command_of, events, explain, has_fault, is_refused, judge, make, asked_by_name, outcomes, places, play, run, schedule_of, sends, show, swap, trace, upgrade}, Forms.{AskFor, WrittenFormsAreTaken, check_words, events_words, explain_words, is_plain, judge_words, make_words, outcomes_words, places_words, play_words, run_words, schedule_words, sends_words, show_words, swap_words, trace_words, upgrade_words}, Line.rcap}
 
 check_taken : (c : ℕ) (rest : Text) → nat_eq c 45 ≡ false → takes rcap (check_words (c ∷ rest)) ≡ true
 unfolding clap_on_literals

@@ -1,15 +1,9 @@
 -- Words without a subcommand have a fault, and are not taken.
 use Rattle.std.proofs.Common.{◌≡◌, Bool, true, false, List, [], ◌∷◌, None, refl, is_some, ap, subst, not, ◌&&◌, ◌||◌}
-use Rattle.clap.specs.Kinds.{Kinds, or_else, check_kinds}
-use Rattle.clap.specs.Faults.{check_fault, defaults_fault, entered_fault, level_fault, settle_fault, walk_fault}
-use Rattle.clap.specs.Takes.{default_passes, entered_passes, is_given, is_valid, level_passes, settle_passes, walk_passes}
-use Rattle.clap.specs.Facts.{explicit_source}
+use Rattle.clap.specs.{Kinds.{Kinds, or_else, check_kinds}, Faults.{check_fault, defaults_fault, entered_fault, level_fault, settle_fault, walk_fault}, Takes.{default_passes, entered_passes, is_given, is_valid, level_passes, settle_passes, walk_passes}, Facts.explicit_source, Simple.{Shape, built, is_simple, argument_words, names_of}, Walk.{Held, Names, finished, nothing_held, settled, walk, walk_from}, Words.{Row, Text, fault_of, subcommand_of, takes}}
 use Rattle.std.specs.List.{list_all, list_any}
-use Rattle.clap.specs.Simple.{Shape, built, is_simple, argument_words, names_of}
-use Rattle.clap.specs.Walk.{Held, Names, finished, nothing_held, settled, walk, walk_from}
-use Rattle.clap.specs.Words.{Row, Text, fault_of, subcommand_of, takes}
 use Rattle.pc_args.specs.Line.{rcap}
-use Rattle.pc_lists.proofs.Bools.{second_true, first_true}
+use Rattle.pc_base.proofs.Bools.{second_true, first_true}
 
 or_else_nil : (a b : Kinds) → or_else a b ≡ [] → b ≡ []
 or_else_nil [] b e = e

@@ -1,14 +1,10 @@
 -- Which words are refused.
 use Rattle.std.proofs.Common.{◌≡◌, Bool, true, false, not, ◌&&◌, List, [], ◌∷◌, Option, Some, None, refl, subst, sym}
 use Rattle.std.specs.Prelude.{if◌then◌else◌, option_and_then}
-use Rattle.clap.specs.Kinds.{Kinds}
-use Rattle.clap.specs.Words.{fault_of, subcommand_of, takes}
-use Rattle.pc_lists.specs.Lists.{Text}
-use Rattle.pc_args.specs.Asked.{Asked, command_of, has_fault, is_refused, asked_by_name}
-use Rattle.pc_args.specs.Line.{rcap}
-use Rattle.pc_args.specs.Refused.{OnlyRefusedAskForNothing}
-use Rattle.pc_args.proofs.Forms.{nothing_asked}
-use Rattle.pc_args.proofs.Missing.{missing, untaken_without}
+use Rattle.clap.specs.{Kinds.Kinds, Words.{fault_of, subcommand_of, takes}}
+use Rattle.pc_base.specs.Lists.{Text}
+use Rattle.pc_args.specs.{Asked.{Asked, command_of, has_fault, is_refused, asked_by_name}, Line.rcap, Refused.OnlyRefusedAskForNothing}
+use Rattle.pc_args.proofs.{Forms.nothing_asked, Missing.{missing, untaken_without}}
 
 faultless : (t : Bool) (k : Kinds) → k ≡ [] → (not t && has_fault k) ≡ false
 faultless true [] e = refl

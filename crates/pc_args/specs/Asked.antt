@@ -1,8 +1,7 @@
 -- What the words of a command line ask for.
-use Rattle.std.specs.Prelude.{List, [], ◌∷◌, Bool, true, false, not, ◌&&◌, Option, Some, None, map, codes, if◌then◌else◌, option_and_then, unwrap_or}
-use Rattle.std.specs.{Str.bytes_eq, Borrow.Bor}
-use Rattle.clap.specs.{Kinds.Kinds, Words.Row, Words.fault_of, Words.first_of, Words.subcommand_of, Words.takes}
-use Rattle.pc_lists.specs.Lists.{Text}
+use Rattle.std.specs.{Prelude.{List, [], ◌∷◌, Bool, true, false, not, ◌&&◌, Option, Some, None, map, codes, if◌then◌else◌, option_and_then, unwrap_or}, Str.bytes_eq, Borrow.Bor}
+use Rattle.clap.specs.{Kinds.Kinds, Words.{Row, fault_of, first_of, subcommand_of, takes}}
+use Rattle.pc_base.specs.Lists.{Text}
 use Rattle.pc_args.specs.Line.{rcap}
 
 -- the words, as their bytes

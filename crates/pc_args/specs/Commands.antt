@@ -1,5 +1,5 @@
 -- What the commands that are read from words ask for.
-use Rattle.pc_args.specs.{declared.words.Command.Command, declared.words.Command.TheVariants.Check, declared.words.Command.TheVariants.Judge, declared.words.Command.TheVariants.Run, declared.words.Command.TheVariants.Show, declared.words.Command.TheVariants.Make, declared.words.Command.TheVariants.Swap, declared.words.Command.TheVariants.Trace, declared.words.Command.TheVariants.Sends, declared.words.Command.TheVariants.Upgrade, declared.words.Command.TheVariants.Schedule, declared.words.Command.TheVariants.Play, declared.words.Command.TheVariants.Outcomes, declared.words.Command.TheVariants.Places, declared.words.Command.TheVariants.Events, declared.words.Command.TheVariants.Explain, Asked.Asked, Asked.check, Asked.judge, Asked.run, Asked.show, Asked.make, Asked.swap, Asked.trace, Asked.events, Asked.places, Asked.explain, Asked.sends, Asked.upgrade, Asked.schedule_of, Asked.play, Asked.outcomes}
+use Rattle.pc_args.specs.{declared.words.Command.Command, declared.words.Command.TheVariants.{Check, Judge, Run, Show, Make, Swap, Trace, Sends, Upgrade, Schedule, Play, Outcomes, Places, Events, Explain}, Asked.{Asked, check, judge, run, show, make, swap, trace, events, places, explain, sends, upgrade, schedule_of, play, outcomes}}
 
 abbrev pub asked_by : Command → Asked
 asked_by (Check source) = check source.now

@@ -1,8 +1,8 @@
 -- The written forms of commands.
 use Rattle.std.specs.Prelude.{◌≡◌, ◌==◌, Bool, true, false, not, List, [], ◌∷◌, Some, codes}
 use Rattle.clap.specs.Words.{takes}
-use Rattle.pc_lists.specs.Lists.{Text}
-use Rattle.pc_args.specs.{Asked.Asked, Asked.check, Asked.command_of, Asked.events, Asked.explain, Asked.judge, Asked.make, Asked.outcomes, Asked.places, Asked.play, Asked.run, Asked.schedule_of, Asked.sends, Asked.show, Asked.swap, Asked.trace, Asked.upgrade, Line.rcap}
+use Rattle.pc_base.specs.Lists.{Text}
+use Rattle.pc_args.specs.{Asked.{Asked, check, command_of, events, explain, judge, make, outcomes, places, play, run, schedule_of, sends, show, swap, trace, upgrade}, Line.rcap}
 
 -- A name or number that is not empty and does not begin with `-`.
 abbrev pub is_plain : Text → Bool

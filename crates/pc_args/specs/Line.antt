@@ -1,7 +1,6 @@
 -- The command line of the program, in clap's terms: a required subcommand, with required arguments of one value each.
-use Rattle.std.specs.Prelude.{List, [], ◌∷◌, true, codes, ℕ, ◌≡◌, ◌≤◌, ◌<◌, ◌^◌, length, fold}
-use Rattle.std.specs.Str.Parse.{IsNumeral, digits_value}
-use Rattle.clap.specs.{Simple.on_top, Words.App, Words.Rule, Words.Text, Words.new_app, Words.new_rule, Words.with_rule, Words.with_subcommand}
+use Rattle.std.specs.{Prelude.{List, [], ◌∷◌, true, codes, ℕ, ◌≡◌, ◌≤◌, ◌<◌, ◌^◌, length, fold}, Str.Parse.{IsNumeral, digits_value}}
+use Rattle.clap.specs.{Simple.on_top, Words.{App, Rule, Text, new_app, new_rule, with_rule, with_subcommand}}
 
 abbrev pub positional : Text → Rule
 positional id = record (new_rule id) { required = true }

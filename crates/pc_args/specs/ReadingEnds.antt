@@ -1,7 +1,7 @@
 -- How the reading of words ends.
 use Rattle.std.specs.Prelude.{◌≡◌, true, List, Some, Result, MatchResult}
-use Rattle.pc_lists.specs.Lists.{Text}
-use Rattle.pc_args.specs.{Commands.asked_by, Asked.command_of, Asked.is_refused, declared.words.Command.Command, declared.words.WordsFault.WordsFault, declared.words.WordsFault.TheVariants.Refused, declared.words.WordsFault.TheVariants.Memory}
+use Rattle.pc_base.specs.Lists.{Text}
+use Rattle.pc_args.specs.{Commands.asked_by, Asked.{command_of, is_refused}, declared.words.Command.Command, declared.words.WordsFault.WordsFault, declared.words.WordsFault.TheVariants.{Refused, Memory}}
 
 abbrev pub ReadingStops : List Text → WordsFault → Type 0
 ReadingStops words Refused = is_refused words ≡ true

@@ -1,6 +1,6 @@
 -- Which words ask for nothing.
 use Rattle.std.specs.Prelude.{◌≡◌, true, List, None}
-use Rattle.pc_lists.specs.Lists.{Text}
+use Rattle.pc_base.specs.Lists.{Text}
 use Rattle.pc_args.specs.Asked.{command_of, is_refused}
 
 -- Exactly those that are refused.

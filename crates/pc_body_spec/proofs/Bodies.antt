@@ -1,26 +1,16 @@
 -- Whole bodies.
-use Rattle.std.proofs.Common.{◌≡◌, ℕ, ◌<◌, List, [], ◌∷◌, length, Option, Some, None, Bool, true, false, refl, ap, ◌∙◌, sym, arith, inl, inr}
+use Rattle.std.proofs.{Common.{◌≡◌, ℕ, ◌<◌, List, [], ◌∷◌, length, Option, Some, None, Bool, true, false, refl, ap, ◌∙◌, sym, arith, inl, inr}, lemmas.Option.{same_Some, none-some}}
 use Rattle.std.specs.Prelude.{slice_get}
-use Rattle.std.proofs.lemmas.Option.{same_Some, none-some}
-use Rattle.pc_caps.specs.declared.span.Span.{Span}
-use Rattle.pc_lists.proofs.Gets.{get_push, get_behind}
+use Rattle.pc_base.specs.declared.span.Span.{Span}
+use Rattle.pc_base.proofs.Gets.{get_push, get_behind}
 use Rattle.pc_tree.specs.declared.written_names.Name.{Name}
 use Rattle.pc_tree.specs.Tree as t
 use Rattle.pc_core.specs.declared.nodes.Node.{Node}
 use Rattle.pc_core.specs.declared.nodes.NodeKind.TheVariants as node
-use Rattle.pc_body_spec.specs.Bodies.{Rose, Roses, one, node_of, sequence, roses_of_items, added_none, initials_then, initial_fields, gives_none, none_last, body_around, body_with, Context, params_scope}
-use Rattle.pc_body_spec.specs.Parts.{initial_of, maybe_body}
-use Rattle.pc_body_spec.specs.Fold.{put, puts, push}
-use Rattle.pc_body_spec.specs.Faults.{initial_faults}
-use Rattle.pc_body_spec.specs.Parts.{value_faults, written_body_faults}
-use Rattle.pc_body_spec.specs.Shapes.{AllShaped}
-use Rattle.pc_body_spec.specs.Meanings.{EveryOf, NamesWhatIsThere}
-use Rattle.pc_body_spec.specs.Laws.{BodyStands, BodiesStand, AddedBodiesStand}
-use Rattle.pc_body_spec.proofs.PostOrders.{Parts, parts, Pushed, pushed, post}
+use Rattle.pc_body_spec.specs.{Bodies.{Rose, Roses, one, node_of, sequence, roses_of_items, added_none, initials_then, initial_fields, gives_none, none_last, body_around, body_with, Context, params_scope}, Parts.{initial_of, maybe_body, value_faults, written_body_faults}, Fold.{put, puts, push}, Faults.initial_faults, Shapes.AllShaped, Meanings.{EveryOf, NamesWhatIsThere}, Laws.{BodyStands, BodiesStand, AddedBodiesStand}}
+use Rattle.pc_body_spec.proofs.{PostOrders.{Parts, parts, Pushed, pushed, post}, Meanings.{left_none, right_none}, Nodes.{nodes_have_children, NewAre, all_kept}}
 use Rattle.pc_body_spec.proofs.Shapes as shape
 use Rattle.pc_body_spec.proofs.Meanings as meaning
-use Rattle.pc_body_spec.proofs.Meanings.{left_none, right_none}
-use Rattle.pc_body_spec.proofs.Nodes.{nodes_have_children, NewAre, all_kept}
 
 -- ---- the items of a body
 

@@ -1,17 +1,12 @@
 -- What a body refers to is visible there.
-use Rattle.std.proofs.Common.{◌≡◌, ℕ, List, [], ◌∷◌, ◌++◌, Option, Some, None, Bool, true, false, refl, sym, subst, inl, inr}
+use Rattle.std.proofs.{Common.{◌≡◌, ℕ, List, [], ◌∷◌, ◌++◌, Option, Some, None, Bool, true, false, refl, sym, subst, inl, inr}, lemmas.Option.{same_Some, none-some}}
 use Rattle.std.specs.Prelude.{◌⊎◌}
-use Rattle.std.proofs.lemmas.Option.{same_Some, none-some}
-use Rattle.pc_caps.specs.declared.span.Span.{Span}
+use Rattle.pc_base.specs.{declared.span.Span.Span, Lists.IsIn}
 use Rattle.pc_tree.specs.declared.written_names.Name.{Name}
 use Rattle.pc_tree.specs.Tree as t
 use Rattle.pc_core.specs.declared.nodes.NodeKind.{NodeKind}
 use Rattle.pc_core.specs.declared.nodes.NodeKind.TheVariants as node
-use Rattle.pc_body_spec.specs.Bodies.{Rose, Roses, rose, one, more, no_roses, and_last, expr_of, roses_of_items, added_none, initials_then, initial_fields, gives_none, none_last, body_with, Context, params_scope}
-use Rattle.pc_body_spec.specs.Parts.{initial_of, maybe_body}
-use Rattle.pc_body_spec.specs.Visibility.{AsksVisible, ItemAsks, Scoped, AllScoped, ItemsScoped, slots}
-use Rattle.pc_lists.specs.Lists.{IsIn}
-use Rattle.pc_body_spec.specs.Laws.{BodiesAreScoped, AddedBodiesAreScoped}
+use Rattle.pc_body_spec.specs.{Bodies.{Rose, Roses, rose, one, more, no_roses, and_last, expr_of, roses_of_items, added_none, initials_then, initial_fields, gives_none, none_last, body_with, Context, params_scope}, Parts.{initial_of, maybe_body}, Visibility.{AsksVisible, ItemAsks, Scoped, AllScoped, ItemsScoped, slots}, Laws.{BodiesAreScoped, AddedBodiesAreScoped}}
 use Rattle.pc_body_spec.proofs.Scopes.{expr_ok, items_ok, sequence_ok}
 
 -- ---- if more is visible

@@ -1,7 +1,6 @@
 -- The small bodies, computed.
 use Rattle.std.proofs.Common.{refl}
-use Rattle.pc_body_spec.specs.Fold.{push}
-use Rattle.pc_body_spec.specs.Example.{FirstStands, SecondStands, ThirdStands}
+use Rattle.pc_body_spec.specs.{Fold.push, Example.{FirstStands, SecondStands, ThirdStands}}
 
 pub first_stands : FirstStands
 unfolding push

@@ -1,21 +1,12 @@
 -- Locals among the nodes: every use of one comes after its definition, in the same sequence.
-use Rattle.std.proofs.Common.{◌≡◌, ℕ, suc, ◌+◌, ◌<◌, ◌≤◌, List, [], ◌∷◌, ◌++◌, length, Some, refl, ap, ◌∙◌, sym, subst, arith, inl, inr}
+use Rattle.std.proofs.{Common.{◌≡◌, ℕ, suc, ◌+◌, ◌<◌, ◌≤◌, List, [], ◌∷◌, ◌++◌, length, Some, refl, ap, ◌∙◌, sym, subst, arith, inl, inr}, lemmas.Bool.cases_lt, lemmas.List.{length-append, append-nil}, lemmas.Option.{same_Some, none-some}}
 use Rattle.std.specs.Prelude.{slice_get, ◌⊎◌}
-use Rattle.std.proofs.lemmas.Bool.{cases_lt}
-use Rattle.std.proofs.lemmas.List.{length-append, append-nil}
-use Rattle.std.proofs.lemmas.Option.{same_Some, none-some}
-use Rattle.pc_lists.proofs.Gets.{get_front, get_push, get_behind, get_below, append_get}
-use Rattle.pc_core.specs.declared.nodes.Node.{Node}
-use Rattle.pc_core.specs.declared.nodes.NodeKind.{NodeKind}
+use Rattle.pc_base.proofs.Gets.{get_front, get_push, get_behind, get_below, append_get}
+use Rattle.pc_core.specs.{declared.nodes.Node.Node, declared.nodes.NodeKind.NodeKind, Methods.UsesSlot}
 use Rattle.pc_core.specs.declared.nodes.NodeKind.TheVariants as node
-use Rattle.pc_lists.specs.Lists.{Has, IsIn}
-use Rattle.pc_core.specs.Methods.{UsesSlot}
-use Rattle.pc_body_spec.specs.Bodies.{Rose, Roses, rose, more, no_roses, node_of}
-use Rattle.pc_body_spec.specs.Fold.{and_then, put, puts, push}
-use Rattle.pc_body_spec.specs.Visibility.{AsksVisible, ItemAsks, Scoped, AllScoped, ItemsScoped}
-use Rattle.pc_body_spec.specs.Laws.{IsItem, IsDefined, LocalsAreDefined}
-use Rattle.pc_body_spec.proofs.PostOrders.{Parts, parts, Pushed, pushed, AllStand, posts}
-use Rattle.pc_body_spec.proofs.Nodes.{beyond}
+use Rattle.pc_base.specs.Lists.{Has, IsIn}
+use Rattle.pc_body_spec.specs.{Bodies.{Rose, Roses, rose, more, no_roses, node_of}, Fold.{and_then, put, puts, push}, Visibility.{AsksVisible, ItemAsks, Scoped, AllScoped, ItemsScoped}, Laws.{IsItem, IsDefined, LocalsAreDefined}}
+use Rattle.pc_body_spec.proofs.{PostOrders.{Parts, parts, Pushed, pushed, AllStand, posts}, Nodes.beyond}
 
 -- ---- what a kind requires, by cases
 

@@ -1,24 +1,12 @@
 -- If there is no fault, what the numbers in an expression refer to exists.
-use Rattle.std.proofs.Common.{◌≡◌, ℕ, suc, ◌+◌, ◌<◌, ◌≤◌, length, List, [], ◌∷◌, ◌++◌, Option, Some, None, Bool, true, false, refl, sym, subst, inl, inr, arith, if◌then◌else◌, ap, ◌∙◌}
-use Rattle.std.specs.Prelude.{slice_get, nat_eq, nat_le, ◌⊎◌}
-use Rattle.std.specs.Str.{bytes_eq}
-use Rattle.std.proofs.lemmas.Bool.{leb-true, eqb-true}
-use Rattle.std.proofs.lemmas.Option.{same_Some, none-some}
-use Rattle.pc_caps.specs.declared.span.Span.{Span}
-use Rattle.pc_tree.specs.declared.kinds.Op.{Op}
+use Rattle.std.proofs.{Common.{◌≡◌, ℕ, suc, ◌+◌, ◌<◌, ◌≤◌, length, List, [], ◌∷◌, ◌++◌, Option, Some, None, Bool, true, false, refl, sym, subst, inl, inr, arith, if◌then◌else◌, ap, ◌∙◌}, lemmas.Bool.{leb-true, eqb-true}, lemmas.Option.{same_Some, none-some}}
+use Rattle.std.specs.{Prelude.{slice_get, nat_eq, nat_le, ◌⊎◌}, Str.bytes_eq}
+use Rattle.pc_base.specs.{declared.span.Span.Span, Lists.Has}
+use Rattle.pc_tree.specs.{declared.kinds.Op.Op, declared.written_names.Name.Name, declared.kinds.EntityKind.EntityKind, Kinds.first_own}
 use Rattle.pc_tree.specs.declared.kinds.Op.TheVariants as op
-use Rattle.pc_tree.specs.declared.written_names.Name.{Name}
-use Rattle.pc_tree.specs.declared.kinds.EntityKind.{EntityKind}
 use Rattle.pc_tree.specs.declared.kinds.EntityKind.TheVariants as kind
 use Rattle.pc_tree.specs.Tree as t
-use Rattle.pc_tree.specs.Kinds.{first_own}
-use Rattle.pc_body_spec.specs.Bodies.{Rose, Roses, rose, more, no_roses, and_last, two, three, value_then, use_other, joined_span, added_this, operation, read_field, call, read_name, write_name, new_object_rose, create_name, read_type, Start, with_method, with_type, with_value, chain_start, start_with_name, apply_name, apply_primitive, apply, call_named, Use, read, write, use_field, if_of, arm_place, sequence, expr_of, assign_of, infix_of, operands_of, chain_of, named_of, roses_of_exprs, rose_of_arms, arm_of, other_of, whole_of, seq_of, roses_of_items, item_of, Context, Scope, Constructor, KnownEntity, text_from, type_from, is_own, by_kind, Meaning, local, field, method, nothing, TypeMeaning, primitive, created, no_value, slot_named, number_of_text, resolve, type_meaning, constructor_named, scope_after, deeper}
-use Rattle.pc_body_spec.specs.Parts.{consumed}
-use Rattle.pc_lists.specs.Lists.{Has}
-use Rattle.pc_body_spec.specs.Faults.{BodyNameFault, unknown, double, is_name_taken, bare_name_faults, type_name_faults, Next, arguments, name, end, next_of, start_faults, dot_faults, faults_of, exprs_faults, suffixes_faults, arms_faults, arm_faults, other_faults, seq_faults, items_faults, item_faults}
-use Rattle.pc_body_spec.specs.Parts.{unless_some, fault_if, written_faults}
-use Rattle.pc_body_spec.specs.Meanings.{Every, EveryOf, IsOfKind, IsConstructor, NamesWhatIsThere}
-use Rattle.pc_body_spec.specs.Laws.{NothingIsMissing}
+use Rattle.pc_body_spec.specs.{Bodies.{Rose, Roses, rose, more, no_roses, and_last, two, three, value_then, use_other, joined_span, added_this, operation, read_field, call, read_name, write_name, new_object_rose, create_name, read_type, Start, with_method, with_type, with_value, chain_start, start_with_name, apply_name, apply_primitive, apply, call_named, Use, read, write, use_field, if_of, arm_place, sequence, expr_of, assign_of, infix_of, operands_of, chain_of, named_of, roses_of_exprs, rose_of_arms, arm_of, other_of, whole_of, seq_of, roses_of_items, item_of, Context, Scope, Constructor, KnownEntity, text_from, type_from, is_own, by_kind, Meaning, local, field, method, nothing, TypeMeaning, primitive, created, no_value, slot_named, number_of_text, resolve, type_meaning, constructor_named, scope_after, deeper}, Parts.{consumed, unless_some, fault_if, written_faults}, Faults.{BodyNameFault, unknown, double, is_name_taken, bare_name_faults, type_name_faults, Next, arguments, name, end, next_of, start_faults, dot_faults, faults_of, exprs_faults, suffixes_faults, arms_faults, arm_faults, other_faults, seq_faults, items_faults, item_faults}, Meanings.{Every, EveryOf, IsOfKind, IsConstructor, NamesWhatIsThere}, Laws.NothingIsMissing}
 
 abbrev IsSome : List BodyNameFault → Type 0
 IsSome [] = ⊥

@@ -1,18 +1,11 @@
 -- Methods without a fault.
-use Rattle.std.proofs.Common.{◌≡◌, ℕ, ◌+◌, ◌≤◌, length, List, [], ◌∷◌, Option, Some, None, refl, sym, ap, ◌∙◌, subst, arith, inl, inr}
+use Rattle.std.proofs.{Common.{◌≡◌, ℕ, ◌+◌, ◌≤◌, length, List, [], ◌∷◌, Option, Some, None, refl, sym, ap, ◌∙◌, subst, arith, inl, inr}, lemmas.Bool.cases_lt, lemmas.Option.{same_Some, none-some}}
 use Rattle.std.specs.Prelude.{slice_get, Ok, Err}
-use Rattle.std.proofs.lemmas.Bool.{cases_lt}
-use Rattle.std.proofs.lemmas.Option.{same_Some, none-some}
-use Rattle.pc_caps.specs.declared.span.Span.{Span}
-use Rattle.pc_lists.proofs.Gets.{get_within}
+use Rattle.pc_base.specs.declared.span.Span.{Span}
+use Rattle.pc_base.proofs.Gets.{get_within}
 use Rattle.pc_tree.specs.declared.written_names.Name.{Name}
 use Rattle.pc_core.specs.declared.nodes.Node.{Node}
-use Rattle.pc_body_spec.specs.Bodies.{Rose, body_of, added_body}
-use Rattle.pc_body_spec.specs.Fold.{Numbered, put}
-use Rattle.pc_body_spec.specs.Faults.{BodyNameFault, body_faults, initial_faults}
-use Rattle.pc_body_spec.specs.Slots.{initial_locals}
-use Rattle.pc_body_spec.specs.Methods.{MethodOutcome, slot_names, local_names, unless_fault, unless_name, unless_full, numbered_or_full, put_body}
-use Rattle.pc_body_spec.specs.Laws.{MethodsStand, AddedMethodsStand}
+use Rattle.pc_body_spec.specs.{Bodies.{Rose, body_of, added_body}, Fold.{Numbered, put}, Faults.{BodyNameFault, body_faults, initial_faults}, Slots.initial_locals, Methods.{MethodOutcome, slot_names, local_names, unless_fault, unless_name, unless_full, numbered_or_full, put_body}, Laws.{MethodsStand, AddedMethodsStand}}
 use Rattle.pc_body_spec.proofs.Bodies.{bodies_stand, added_bodies_stand}
 
 abbrev IsOk : MethodOutcome → Type 0

@@ -1,22 +1,11 @@
 -- From facts about a rose to facts about its nodes.
-use Rattle.std.proofs.Common.{◌≡◌, ℕ, zero, suc, ◌+◌, ◌-◌, ◌≤◌, List, [], ◌∷◌, ◌++◌, length, Some, refl, ap, ◌∙◌, sym, subst, arith, inl, inr}
+use Rattle.std.proofs.{Common.{◌≡◌, ℕ, zero, suc, ◌+◌, ◌-◌, ◌≤◌, List, [], ◌∷◌, ◌++◌, length, Some, refl, ap, ◌∙◌, sym, subst, arith, inl, inr}, lemmas.Bool.cases_lt, Math.Nat.min-eq_left, lemmas.List.length-append, lemmas.Option.{same_Some, none-some}}
 use Rattle.std.specs.Prelude.{slice_get, ◌^◌}
-use Rattle.std.proofs.lemmas.Bool.{cases_lt}
-use Rattle.std.proofs.Math.Nat.{min-eq_left}
-use Rattle.std.proofs.lemmas.List.{length-append}
-use Rattle.std.proofs.lemmas.Option.{same_Some, none-some}
-use Rattle.pc_caps.specs.declared.span.Span.{Span}
-use Rattle.pc_lists.proofs.Gets.{get_front, get_push, get_behind, get_below, append_get}
-use Rattle.pc_core.specs.declared.nodes.Node.{Node}
-use Rattle.pc_core.specs.declared.nodes.NodeKind.{NodeKind}
+use Rattle.pc_base.specs.{declared.span.Span.Span, Lists.Each}
+use Rattle.pc_base.proofs.Gets.{get_front, get_push, get_behind, get_below, append_get}
+use Rattle.pc_core.specs.{declared.nodes.Node.Node, declared.nodes.NodeKind.NodeKind, Nodes.{HasArity, inner_depth}}
 use Rattle.pc_core.specs.declared.nodes.NodeKind.TheVariants as node
-use Rattle.pc_lists.specs.Lists.{Each}
-use Rattle.pc_core.specs.Nodes.{HasArity, inner_depth}
-use Rattle.pc_body_spec.specs.Bodies.{Rose, Roses, rose, more, no_roses, node_of, deeper}
-use Rattle.pc_body_spec.specs.Fold.{and_then, put, puts, push}
-use Rattle.pc_body_spec.specs.Shapes.{count, depth_inside, Shaped, AllShaped}
-use Rattle.pc_body_spec.specs.Meanings.{Every, EveryOf}
-use Rattle.pc_body_spec.specs.Laws.{HasChildren, NodesHaveChildren, WasPut}
+use Rattle.pc_body_spec.specs.{Bodies.{Rose, Roses, rose, more, no_roses, node_of, deeper}, Fold.{and_then, put, puts, push}, Shapes.{count, depth_inside, Shaped, AllShaped}, Meanings.{Every, EveryOf}, Laws.{HasChildren, NodesHaveChildren, WasPut}}
 use Rattle.pc_body_spec.proofs.PostOrders.{Parts, parts, Pushed, pushed, AllStand, post, posts}
 
 -- ---- how many nodes there are

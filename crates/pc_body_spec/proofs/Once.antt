@@ -1,33 +1,14 @@
 -- Each local of a body is defined by exactly one of its nodes.
-use Rattle.std.proofs.Common.{◌≡◌, ℕ, zero, suc, ◌+◌, ◌-◌, ◌<◌, ◌≤◌, length, List, [], ◌∷◌, ◌++◌, Option, Some, None, Bool, true, false, refl, sym, ap, ◌∙◌, subst, inl, inr, arith}
+use Rattle.std.proofs.{Common.{◌≡◌, ℕ, zero, suc, ◌+◌, ◌-◌, ◌<◌, ◌≤◌, length, List, [], ◌∷◌, ◌++◌, Option, Some, None, Bool, true, false, refl, sym, ap, ◌∙◌, subst, inl, inr, arith}, lemmas.Option.{same_Some, none-some}, lemmas.Bool.{eq-eqb, and_from}, lemmas.Bool.Decides.eqb_tells}
 use Rattle.std.specs.Prelude.{slice_get, nat_eq, ◌⊎◌, ◌&&◌}
-use Rattle.std.proofs.lemmas.Option.{same_Some, none-some}
-use Rattle.std.proofs.lemmas.Bool.{eq-eqb, and_from}
-use Rattle.std.proofs.lemmas.Bool.Decides.{eqb_tells}
-use Rattle.pc_caps.specs.declared.span.Span.{Span}
+use Rattle.pc_base.specs.{declared.span.Span.Span, Counts.one_if}
 use Rattle.pc_tree.specs.declared.written_names.Name.{Name}
 use Rattle.pc_tree.specs.Tree as t
-use Rattle.pc_core.specs.declared.nodes.Node.{Node}
-use Rattle.pc_core.specs.declared.nodes.NodeKind.{NodeKind}
+use Rattle.pc_core.specs.{declared.nodes.Node.Node, declared.nodes.NodeKind.NodeKind}
 use Rattle.pc_core.specs.declared.nodes.NodeKind.TheVariants as node
-use Rattle.pc_lists.proofs.Gets.{append_get, get_append}
-use Rattle.pc_body_spec.specs.Bodies.{Rose, Roses, rose, more, no_roses, one, and_last, node_of, roses_of_items, added_none, initials_then, initial_fields, gives_none, none_last, body_with, added_body, Context, slot_at, params_scope}
-use Rattle.pc_body_spec.specs.Parts.{initial_of, maybe_body}
-use Rattle.pc_body_spec.specs.Fold.{and_then, put, puts, push}
-use Rattle.pc_body_spec.specs.Faults.{initial_faults}
-use Rattle.pc_body_spec.specs.Parts.{value_faults, written_body_faults}
-use Rattle.pc_body_spec.specs.Slots.{Local, initial_locals, method_locals, placed_from}
-use Rattle.pc_body_spec.specs.Parts.{value_locals, body_locals}
-use Rattle.pc_body_spec.specs.Places.{body_places, initial_places, local_start}
-use Rattle.pc_body_spec.specs.Counts.{kind_times, times, times_all, local_times, has_slot, has_place}
-use Rattle.pc_lists.specs.Counts.{one_if}
-use Rattle.pc_body_spec.specs.Laws.{IsDefinedOnce, LocalsAreDefinedOnce, AddedLocalsAreDefinedOnce, WasPut}
-use Rattle.pc_body_spec.proofs.Meanings.{left_none, right_none}
-use Rattle.pc_body_spec.proofs.Counts.{join_n, last_n, sequence_n, expr_n, items_n}
-use Rattle.pc_body_spec.proofs.PostOrders.{Parts, parts, Pushed, pushed, post}
-use Rattle.pc_body_spec.proofs.Nodes.{beyond}
-use Rattle.pc_body_spec.proofs.Places.{Rising, rising, method_in, initials_in, slot_is}
-use Rattle.pc_lists.proofs.Bools.{true_false}
+use Rattle.pc_base.proofs.{Gets.{append_get, get_append}, Bools.true_false}
+use Rattle.pc_body_spec.specs.{Bodies.{Rose, Roses, rose, more, no_roses, one, and_last, node_of, roses_of_items, added_none, initials_then, initial_fields, gives_none, none_last, body_with, added_body, Context, slot_at, params_scope}, Parts.{initial_of, maybe_body, value_faults, written_body_faults, value_locals, body_locals}, Fold.{and_then, put, puts, push}, Faults.initial_faults, Slots.{Local, initial_locals, method_locals, placed_from}, Places.{body_places, initial_places, local_start}, Counts.{kind_times, times, times_all, local_times, has_slot, has_place}, Laws.{IsDefinedOnce, LocalsAreDefinedOnce, AddedLocalsAreDefinedOnce, WasPut}}
+use Rattle.pc_body_spec.proofs.{Meanings.{left_none, right_none}, Counts.{join_n, last_n, sequence_n, expr_n, items_n}, PostOrders.{Parts, parts, Pushed, pushed, post}, Nodes.beyond, Places.{Rising, rising, method_in, initials_in, slot_is}}
 
 -- ---- how often a body defines a slot
 

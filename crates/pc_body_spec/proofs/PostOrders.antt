@@ -1,20 +1,10 @@
 -- The nodes of a rose are in post-order after the existing ones.
-use Rattle.std.proofs.Common.{◌≡◌, ℕ, zero, suc, ◌+◌, ◌-◌, ◌<◌, List, [], ◌∷◌, ◌++◌, length, Some, None, nat_lt, refl, ap, ◌∙◌, sym, subst, append_assoc, append-nil, arith, if◌then◌else◌, true, false, Bool, inl, inr}
+use Rattle.std.proofs.{Common.{◌≡◌, ℕ, zero, suc, ◌+◌, ◌-◌, ◌<◌, List, [], ◌∷◌, ◌++◌, length, Some, None, nat_lt, refl, ap, ◌∙◌, sym, subst, append_assoc, append-nil, arith, if◌then◌else◌, true, false, Bool, inl, inr}, lemmas.List.length-append, lemmas.Bool.ltb-true, lemmas.Option.{same_Some, none-some}}
 use Rattle.std.specs.Prelude.{slice_get}
-use Rattle.std.proofs.lemmas.List.{length-append}
-use Rattle.std.proofs.lemmas.Bool.{ltb-true}
-use Rattle.std.proofs.lemmas.Option.{same_Some, none-some}
-use Rattle.pc_caps.specs.declared.span.Span.{Span}
-use Rattle.pc_core.specs.declared.nodes.Node.{Node}
-use Rattle.pc_core.specs.declared.nodes.NodeKind.{NodeKind}
-use Rattle.pc_lists.specs.Lists.{Each}
-use Rattle.pc_core.specs.Methods.{PostOrder}
-use Rattle.pc_core.specs.Growing.{post_order_push}
-use Rattle.pc_lists.proofs.Gets.{append_get}
-use Rattle.pc_body_spec.specs.Bodies.{Rose, Roses, rose, more, no_roses, node_of}
-use Rattle.pc_body_spec.specs.Fold.{Numbered, and_then, put, puts, push}
-use Rattle.pc_caps.specs.Limits.{node_limit}
-use Rattle.pc_body_spec.specs.Laws.{WasPut, IsPostOrder}
+use Rattle.pc_base.specs.{declared.span.Span.Span, Lists.Each, Limits.node_limit}
+use Rattle.pc_core.specs.{declared.nodes.Node.Node, declared.nodes.NodeKind.NodeKind, Methods.PostOrder, Growing.post_order_push}
+use Rattle.pc_base.proofs.Gets.{append_get}
+use Rattle.pc_body_spec.specs.{Bodies.{Rose, Roses, rose, more, no_roses, node_of}, Fold.{Numbered, and_then, put, puts, push}, Laws.{WasPut, IsPostOrder}}
 
 -- the result of a chain, taken apart
 pub record Parts {A B : Type 0} (o : Numbered A) (f : A → List Node → Numbered B) (r : B × List Node) : Type 0 where

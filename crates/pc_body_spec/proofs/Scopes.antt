@@ -1,20 +1,13 @@
 -- An expression refers only to the locals before it.
-use Rattle.std.proofs.Common.{◌≡◌, ℕ, List, [], ◌∷◌, ◌++◌, Option, Some, None, Bool, true, false, refl, sym, subst, inl, inr, if◌then◌else◌}
-use Rattle.pc_caps.specs.declared.span.Span.{Span}
-use Rattle.pc_tree.specs.declared.kinds.Op.{Op}
+use Rattle.std.proofs.{Common.{◌≡◌, ℕ, List, [], ◌∷◌, ◌++◌, Option, Some, None, Bool, true, false, refl, sym, subst, inl, inr, if◌then◌else◌}, lemmas.List.map_push, lemmas.Option.{same_Some, none-some}}
+use Rattle.pc_base.specs.{declared.span.Span.Span, Lists.IsIn}
+use Rattle.pc_tree.specs.{declared.kinds.Op.Op, declared.written_names.Name.Name}
 use Rattle.pc_tree.specs.declared.kinds.Op.TheVariants as op
-use Rattle.pc_tree.specs.declared.written_names.Name.{Name}
 use Rattle.pc_tree.specs.Tree as t
 use Rattle.pc_core.specs.declared.nodes.NodeKind.{NodeKind}
 use Rattle.pc_core.specs.declared.nodes.NodeKind.TheVariants as node
-use Rattle.pc_body_spec.specs.Bodies.{Rose, Roses, rose, more, no_roses, one, and_last, two, three, value_then, use_other, joined_span, added_this, operation, read_field, read_name, write_name, new_object_rose, create_name, read_type, Start, with_method, with_type, with_value, chain_start, apply_primitive, apply, call_named, Use, read, write, use_field, if_of, arm_place, sequence, expr_of, assign_of, infix_of, operands_of, chain_of, named_of, roses_of_exprs, rose_of_arms, arm_of, other_of, whole_of, seq_of, roses_of_items, Context, Scope, Meaning, local, field, method, nothing, TypeMeaning, primitive, created, no_value, slot_named, resolve, type_meaning, constructor_named, deeper, defined_local, member, is_among_names, unless_local}
-use Rattle.pc_body_spec.specs.Parts.{consumed}
-use Rattle.std.proofs.lemmas.List.{map_push}
-use Rattle.std.proofs.lemmas.Option.{same_Some, none-some}
+use Rattle.pc_body_spec.specs.{Bodies.{Rose, Roses, rose, more, no_roses, one, and_last, two, three, value_then, use_other, joined_span, added_this, operation, read_field, read_name, write_name, new_object_rose, create_name, read_type, Start, with_method, with_type, with_value, chain_start, apply_primitive, apply, call_named, Use, read, write, use_field, if_of, arm_place, sequence, expr_of, assign_of, infix_of, operands_of, chain_of, named_of, roses_of_exprs, rose_of_arms, arm_of, other_of, whole_of, seq_of, roses_of_items, Context, Scope, Meaning, local, field, method, nothing, TypeMeaning, primitive, created, no_value, slot_named, resolve, type_meaning, constructor_named, deeper, defined_local, member, is_among_names, unless_local}, Parts.consumed, Visibility.{AsksVisible, ItemAsks, Scoped, AllScoped, ItemsScoped, slots}, Laws.IsScoped}
 use Rattle.std.specs.Str.{bytes_eq}
-use Rattle.pc_body_spec.specs.Visibility.{AsksVisible, ItemAsks, Scoped, AllScoped, ItemsScoped, slots}
-use Rattle.pc_lists.specs.Lists.{IsIn}
-use Rattle.pc_body_spec.specs.Laws.{IsScoped}
 
 slot_in : (sc : Scope) (name : List ℕ) (s : ℕ) → slot_named sc name ≡ Some s → IsIn s (slots sc)
 slot_in [] name s h = absurd (none-some s h)

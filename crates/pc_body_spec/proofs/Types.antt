@@ -3,11 +3,7 @@ use Rattle.std.proofs.Common.{◌≡◌, ℕ, suc, ◌+◌, ◌<◌, length, Lis
 use Rattle.std.specs.Str.{bytes_eq}
 use Rattle.pc_caps.specs.declared.capability.Cap.{Cap}
 use Rattle.pc_tree.specs.declared.written_names.TypeRef.{TypeRef}
-use Rattle.pc_body_spec.specs.Bodies.{KnownEntity}
-use Rattle.pc_body_spec.specs.Faults.{unknown, is_entity}
-use Rattle.pc_body_spec.specs.Parts.{cap_or}
-use Rattle.pc_body_spec.specs.Fold.{type_of_name}
-use Rattle.pc_body_spec.specs.Laws.{WrittenTypesAreThere}
+use Rattle.pc_body_spec.specs.{Bodies.KnownEntity, Faults.{unknown, is_entity}, Parts.cap_or, Fold.type_of_name, Laws.WrittenTypesAreThere}
 use Rattle.pc_body_spec.proofs.Meanings.{some_fault}
 
 -- The type with a name that an entity has.

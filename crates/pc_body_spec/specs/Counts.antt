@@ -1,8 +1,8 @@
 -- How often locals are defined.
 use Rattle.std.specs.Prelude.{ℕ, ◌+◌, Bool, List, [], ◌∷◌, nat_eq, ◌&&◌}
 use Rattle.pc_core.specs.declared.nodes.NodeKind.{NodeKind}
-use Rattle.pc_body_spec.specs.{Bodies.Rose, Bodies.Roses, Bodies.rose, Bodies.more, Bodies.no_roses, Bodies.Context, Bodies.slot_at, Slots.Local, Places.local_start}
-use Rattle.pc_lists.specs.Counts.{one_if}
+use Rattle.pc_body_spec.specs.{Bodies.{Rose, Roses, rose, more, no_roses, Context, slot_at}, Slots.Local, Places.local_start}
+use Rattle.pc_base.specs.Counts.{one_if}
 use Rattle.pc_core.specs.declared.nodes.NodeKind.TheVariants as node
 
 -- A kind and depth count if they are those of a definition whose slot and depth pass a test.

@@ -1,10 +1,8 @@
 -- The faults of the names and texts of a body, in the order of the text.
-use Rattle.std.specs.Prelude.{ℕ, Bool, true, false, List, [], ◌∷◌, ◌++◌, length, if◌then◌else◌, nat_lt, flat_map}
-use Rattle.std.specs.{Str.bytes_eq, Option.option_map_or, Option.is_none}
-use Rattle.pc_caps.specs.{declared.span.Span.Span, Limits.text_limit}
+use Rattle.std.specs.{Prelude.{ℕ, Bool, true, false, List, [], ◌∷◌, ◌++◌, length, if◌then◌else◌, nat_lt, flat_map}, Str.bytes_eq, Option.{option_map_or, is_none}}
+use Rattle.pc_base.specs.{declared.span.Span.Span, Limits.text_limit, Lists.one_if}
 use Rattle.pc_tree.specs.{declared.written_names.Name.Name, declared.written_names.TypeRef.TypeRef}
-use Rattle.pc_body_spec.specs.{Bodies.Context, Bodies.Scope, Bodies.KnownEntity, Bodies.Constructor, Bodies.Meaning, Bodies.local, Bodies.field, Bodies.TypeMeaning, Bodies.primitive, Bodies.created, Bodies.no_value, Bodies.slot_named, Bodies.resolve, Bodies.type_meaning, Bodies.constructor_named, Bodies.scope_after, Bodies.params_scope, Bodies.Start, Bodies.with_method, Bodies.with_type, Bodies.with_value, Bodies.chain_start, Bodies.create_name, Bodies.initial_fields}
-use Rattle.pc_lists.specs.Lists.{one_if}
+use Rattle.pc_body_spec.specs.Bodies.{Context, Scope, KnownEntity, Constructor, Meaning, local, field, TypeMeaning, primitive, created, no_value, slot_named, resolve, type_meaning, constructor_named, scope_after, params_scope, Start, with_method, with_type, with_value, chain_start, create_name, initial_fields}
 use Rattle.pc_tree.specs.Tree as t
 
 pub data BodyNameFault : Type 0 where

@@ -1,10 +1,10 @@
 -- What a fold over a file makes for each method: the slots of its locals, and nodes with numbers.
-use Rattle.std.specs.Prelude.{ℕ, List, [], ◌∷◌, ◌++◌, length, Option, Some, None, if◌then◌else◌, nat_lt, suc, ◌+◌, unwrap_or}
-use Rattle.std.specs.Str.{bytes_eq}
-use Rattle.pc_caps.specs.{declared.span.Span.Span, Limits.node_limit, declared.capability.Cap.Cap}
+use Rattle.std.specs.{Prelude.{ℕ, List, [], ◌∷◌, ◌++◌, length, Option, Some, None, if◌then◌else◌, nat_lt, suc, ◌+◌, unwrap_or}, Str.bytes_eq}
+use Rattle.pc_base.specs.{declared.span.Span.Span, Limits.node_limit}
+use Rattle.pc_caps.specs.declared.capability.Cap.{Cap}
 use Rattle.pc_core.specs.{declared.nodes.Node.Node, declared.nodes.NodeKind.NodeKind, declared.nodes.Slot.Slot}
 use Rattle.pc_tree.specs.declared.written_names.TypeRef.{TypeRef}
-use Rattle.pc_body_spec.specs.{Bodies.Context, Bodies.KnownEntity, Bodies.Rose, Bodies.rose, Bodies.Roses, Bodies.no_roses, Bodies.more, Bodies.node_of, Slots.Local, Slots.local_kind}
+use Rattle.pc_body_spec.specs.{Bodies.{Context, KnownEntity, Rose, rose, Roses, no_roses, more, node_of}, Slots.{Local, local_kind}}
 
 -- A result and the nodes so far, or none if there are too many nodes.
 abbrev pub Numbered : Type 0 → Type 0

@@ -1,10 +1,10 @@
 -- Laws of the definitions.
 use Rattle.std.specs.Prelude.{◌≡◌, ◌⊎◌, ℕ, Bool, ◌+◌, ◌<◌, ◌≤◌, List, [], ◌∷◌, ◌++◌, length, Some, Ok, slice_get}
-use Rattle.pc_core.specs.{declared.nodes.Node.Node, Methods.PostOrder, Methods.UsesSlot, Nodes.HasArity, Nodes.inner_depth}
-use Rattle.pc_lists.specs.Lists.{Each, Has, Ascends, IsIn}
-use Rattle.pc_caps.specs.{declared.span.Span.Span, declared.capability.Cap.Cap, Limits.node_limit, Limits.slot_limit}
+use Rattle.pc_core.specs.{declared.nodes.Node.Node, Methods.{PostOrder, UsesSlot}, Nodes.{HasArity, inner_depth}}
+use Rattle.pc_base.specs.{Lists.{Each, Has, Ascends, IsIn}, declared.span.Span.Span, Limits.{node_limit, slot_limit}}
+use Rattle.pc_caps.specs.declared.capability.Cap.{Cap}
 use Rattle.pc_tree.specs.declared.written_names.TypeRef.{TypeRef}
-use Rattle.pc_body_spec.specs.{Bodies.Rose, Bodies.expr_of, Bodies.body_of, Bodies.added_body, Fold.put, Fold.written_of, Bodies.Context, Bodies.Scope, Bodies.params_scope, Bodies.slot_at, Shapes.Shaped, Visibility.Scoped, Visibility.slots, Methods.slot_names, Methods.local_names, Methods.method_of, Methods.added_of, Slots.Local, Slots.locals_of, Slots.initial_locals, Slots.method_locals, Slots.slots_of, Slots.added_slots, Counts.times, Counts.local_times, Places.body_places, Places.initial_places, Places.fault_start, Places.local_start, Faults.BodyNameFault, Faults.faults_of, Parts.written_faults, Faults.body_faults, Faults.initial_faults, Meanings.Every, Meanings.NamesWhatIsThere}
+use Rattle.pc_body_spec.specs.{Bodies.{Rose, expr_of, body_of, added_body, Context, Scope, params_scope, slot_at}, Fold.{put, written_of}, Shapes.Shaped, Visibility.{Scoped, slots}, Methods.{slot_names, local_names, method_of, added_of}, Slots.{Local, locals_of, initial_locals, method_locals, slots_of, added_slots}, Counts.{times, local_times}, Places.{body_places, initial_places, fault_start, local_start}, Faults.{BodyNameFault, faults_of, body_faults, initial_faults}, Parts.written_faults, Meanings.{Every, NamesWhatIsThere}}
 use Rattle.pc_core.specs.declared.nodes.NodeKind.TheVariants as node
 use Rattle.pc_tree.specs.Tree as t
 

@@ -1,9 +1,9 @@
 -- The numbers in a rose refer to something that exists.
 use Rattle.std.specs.Prelude.{◌≡◌, ◌⊎◌, ℕ, ◌<◌, ◌≤◌, true, length, Some, slice_get}
-use Rattle.pc_tree.specs.{declared.kinds.EntityKind.EntityKind, Kinds.none_entity, Kinds.first_own}
+use Rattle.pc_tree.specs.{declared.kinds.EntityKind.EntityKind, Kinds.{none_entity, first_own}}
 use Rattle.pc_core.specs.{declared.nodes.NodeKind.NodeKind, Nodes.is_binary}
-use Rattle.pc_lists.specs.Lists.{Has}
-use Rattle.pc_body_spec.specs.{Bodies.Rose, Bodies.Roses, Bodies.rose, Bodies.more, Bodies.no_roses, Bodies.Context, Bodies.KnownEntity, Bodies.Constructor}
+use Rattle.pc_base.specs.Lists.{Has}
+use Rattle.pc_body_spec.specs.Bodies.{Rose, Roses, rose, more, no_roses, Context, KnownEntity, Constructor}
 use Rattle.pc_tree.specs.declared.kinds.EntityKind.TheVariants as kind
 use Rattle.pc_core.specs.declared.nodes.NodeKind.TheVariants as node
 

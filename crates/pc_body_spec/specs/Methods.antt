@@ -1,9 +1,9 @@
 -- The elaboration of a method: its nodes after those of the methods before it, or its first fault.
 use Rattle.std.specs.Prelude.{ℕ, List, [], ◌∷◌, ◌++◌, map, Option, Some, None, Result, Ok, Err, slice_get, ◌-◌}
-use Rattle.pc_caps.specs.{declared.span.Span.Span, Limits.slot_limit}
+use Rattle.pc_base.specs.{declared.span.Span.Span, Limits.slot_limit}
 use Rattle.pc_tree.specs.{declared.written_names.Name.Name, declared.file.ParamDef.ParamDef}
 use Rattle.pc_core.specs.declared.nodes.Node.{Node}
-use Rattle.pc_body_spec.specs.{Bodies.Rose, Bodies.body_of, Bodies.added_body, Fold.Numbered, Fold.put, Bodies.Context, Faults.BodyNameFault, Faults.body_faults, Faults.initial_faults, Slots.Local, Slots.initial_locals, Slots.method_locals}
+use Rattle.pc_body_spec.specs.{Bodies.{Rose, body_of, added_body, Context}, Fold.{Numbered, put}, Faults.{BodyNameFault, body_faults, initial_faults}, Slots.{Local, initial_locals, method_locals}}
 use Rattle.pc_tree.specs.Tree as t
 
 pub data MethodFault : Type 0 where

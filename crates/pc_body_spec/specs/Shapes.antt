@@ -1,7 +1,7 @@
 -- How many children a rose has, and their depths.
 use Rattle.std.specs.Prelude.{◌≡◌, ℕ, suc}
 use Rattle.pc_core.specs.{declared.nodes.NodeKind.NodeKind, Nodes.HasArity}
-use Rattle.pc_body_spec.specs.{Bodies.Rose, Bodies.Roses, Bodies.rose, Bodies.more, Bodies.no_roses, Bodies.deeper}
+use Rattle.pc_body_spec.specs.Bodies.{Rose, Roses, rose, more, no_roses, deeper}
 use Rattle.pc_core.specs.declared.nodes.NodeKind.TheVariants as node
 
 abbrev pub count : Roses → ℕ

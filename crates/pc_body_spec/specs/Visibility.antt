@@ -1,8 +1,8 @@
 -- Which locals a rose may refer to: those defined before it in the sequences around it.
 use Rattle.std.specs.Prelude.{ℕ, List, [], ◌∷◌, ◌++◌, map}
 use Rattle.pc_core.specs.declared.nodes.NodeKind.{NodeKind}
-use Rattle.pc_body_spec.specs.{Bodies.Rose, Bodies.Roses, Bodies.rose, Bodies.more, Bodies.no_roses, Bodies.Scope}
-use Rattle.pc_lists.specs.Lists.{IsIn}
+use Rattle.pc_body_spec.specs.Bodies.{Rose, Roses, rose, more, no_roses, Scope}
+use Rattle.pc_base.specs.Lists.{IsIn}
 use Rattle.pc_core.specs.declared.nodes.NodeKind.TheVariants as node
 
 -- The requirement for a node of this kind: `all` says that its children refer only to what is visible, and `items` that

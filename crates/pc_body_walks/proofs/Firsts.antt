@@ -1,9 +1,8 @@
 -- The first fault of a part is the first of the whole.
 use Rattle.std.proofs.Common.{List, ◌++◌, ap}
 use Rattle.pc_body_spec.specs.Faults.{BodyNameFault, unknown, double, long_text}
-use Rattle.pc_body_walks.specs.declared.fault.BodyFault.{BodyFault}
+use Rattle.pc_body_walks.specs.{declared.fault.BodyFault.BodyFault, Checking.{BeginsWithFault, IsFirstBodyFault}}
 use Rattle.pc_body_walks.specs.declared.fault.BodyFault.TheVariants as fault
-use Rattle.pc_body_walks.specs.Checking.{BeginsWithFault, IsFirstBodyFault}
 
 goes_on : (f : BodyNameFault) (xs ys : List BodyNameFault) → BeginsWithFault xs f → BeginsWithFault (xs ++ ys) f
 goes_on f xs ys h = (h.0 ++ ys, ap (λ l. l ++ ys) h.1)

@@ -1,11 +1,10 @@
 -- What is gathered part by part is the list of all names after a `.`, after those of the table.
 use Rattle.std.proofs.Common.{◌≡◌, List, [], ◌∷◌, ◌++◌, Option, Some, None, refl, sym, ap, ◌∙◌}
 use Rattle.pc_tree.specs.Tree as t
-use Rattle.pc_lists.specs.Lists.{Text}
+use Rattle.pc_base.specs.Lists.{Text}
 use Rattle.pc_members.specs.MemberLists.{with_names}
 use Rattle.pc_members.proofs.Tables.{names_in_parts}
-use Rattle.pc_body_spec.specs.Slots.{expr_texts, exprs_texts, suffix_texts, suffixes_texts, arm_texts, arms_texts, other_texts, seq_texts, items_texts, item_texts, entities_texts}
-use Rattle.pc_body_spec.specs.Parts.{value_texts, body_texts, values_texts, bodies_texts}
+use Rattle.pc_body_spec.specs.{Slots.{expr_texts, exprs_texts, suffix_texts, suffixes_texts, arm_texts, arms_texts, other_texts, seq_texts, items_texts, item_texts, entities_texts}, Parts.{value_texts, body_texts, values_texts, bodies_texts}}
 use Rattle.pc_body_walks.specs.Gathering.{with_expr, with_exprs, with_suffix, with_suffixes, with_arm, with_arms, with_other, with_seq, with_items, with_item, with_value, with_body, with_values, with_bodies, with_entities}
 
 -- The first ones, then the others.

@@ -1,8 +1,8 @@
 -- The first fault of a body, as a walk in the order of the text finds it.
 use Rattle.std.specs.Prelude.{◌≡◌, List, [], ◌∷◌, ◌++◌, Result, Ok, Err}
-use Rattle.pc_caps.specs.declared.span.Span.{Span}
+use Rattle.pc_base.specs.declared.span.Span.{Span}
 use Rattle.pc_tree.specs.declared.written_names.Name.{Name}
-use Rattle.pc_body_spec.specs.{Bodies.Context, Bodies.Scope, Bodies.Constructor, Bodies.constructor_named, Bodies.Meaning, Bodies.resolve, Bodies.TypeMeaning, Bodies.primitive, Bodies.created, Bodies.no_value, Bodies.type_meaning, Bodies.create_name, Bodies.start_with_name, Faults.BodyNameFault, Faults.unknown, Faults.double, Faults.long_text, Parts.unless_some, Faults.bare_name_faults, Faults.Next, Faults.arguments, Faults.name, Faults.end, Faults.next_of, Faults.start_faults, Faults.constructor_faults, Faults.faults_of, Faults.exprs_faults}
+use Rattle.pc_body_spec.specs.{Bodies.{Context, Scope, Constructor, constructor_named, Meaning, resolve, TypeMeaning, primitive, created, no_value, type_meaning, create_name, start_with_name}, Faults.{BodyNameFault, unknown, double, long_text, bare_name_faults, Next, arguments, name, end, next_of, start_faults, constructor_faults, faults_of, exprs_faults}, Parts.unless_some}
 use Rattle.pc_body_walks.specs.{declared.fault.BodyFault.BodyFault, declared.starts.Next.Next as CodeNext}
 use Rattle.pc_tree.specs.Tree as t
 use Rattle.pc_body_walks.specs.declared.fault.BodyFault.TheVariants as fault

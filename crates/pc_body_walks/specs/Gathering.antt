@@ -1,6 +1,6 @@
 -- The names of a table, with those after a `.` in a part of a body appended, in the order of the text.
 use Rattle.std.specs.Prelude.{List, [], ◌∷◌, Option, Some, None}
-use Rattle.pc_lists.specs.Lists.{Text}
+use Rattle.pc_base.specs.Lists.{Text}
 use Rattle.pc_members.specs.MemberLists.{with_name}
 use Rattle.pc_tree.specs.Tree as t
 

@@ -1,13 +1,13 @@
 //! Which single names and texts are allowed in a body.
 ghost use Rattle.std.specs.Prelude.{◌∷◌, [], length, nat_lt, if◌then◌else◌};
-ghost use Rattle.pc_caps.specs.Limits.{text_limit};
+ghost use Rattle.pc_base.specs.Limits.{text_limit};
 ghost use Rattle.pc_body_spec.specs.Bodies.{constructor_named as constructor_in, resolve, slot_named as slot_in, type_meaning, create_name};
 ghost use Rattle.pc_body_spec.specs.Faults as spec;
 ghost use Rattle.pc_body_spec.specs.Parts as parts;
 ghost use Rattle.pc_body_walks.specs.Checking.{TellsFirstBodyFault};
 
 use crate::fault::BodyFault;
-use pc_caps::{Span, TEXT_LIMIT};
+use pc_base::{Span, TEXT_LIMIT};
 use pc_resolve::{Constructors, Context, Meaning, Scope, TypeMeaning};
 use pc_tree::{Name, TypeRef};
 

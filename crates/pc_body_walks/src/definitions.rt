@@ -5,7 +5,7 @@ ghost use Rattle.pc_body_spec.specs.Slots as spec;
 ghost use Rattle.pc_body_spec.specs.Parts as parts;
 
 use crate::local::Local;
-use pc_caps::List;
+use pc_base::List;
 use pc_tree::{Arm, Expr, FieldDef, Item, MethodDef, MethodWord, Name, Seq, Suffix, TypeRef};
 use std::alloc::{AllocError, Global};
 

@@ -2,7 +2,7 @@
 ghost use Rattle.pc_body_walks.specs.declared.fault.BodyFault.TheVariants.{Memory};
 ghost use Rattle.std.specs.Prelude.{◌≡◌};
 
-use pc_caps::Span;
+use pc_base::Span;
 use std::alloc::AllocError;
 
 /// A fault of a body, and its place.

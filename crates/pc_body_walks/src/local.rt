@@ -2,7 +2,7 @@
 ghost use Rattle.std.specs.Prelude.{◌≡◌, IfOk};
 ghost use Rattle.std.specs.Option.{option_copied};
 
-use pc_caps::ShortBytes;
+use pc_base::ShortBytes;
 use pc_tree::{Name, TypeRef};
 use std::alloc::{AllocError, Global};
 use std::marker::Model;

@@ -3,7 +3,7 @@ ghost use Rattle.std.specs.Prelude.{◌≡◌, ◌++◌, IfOk, OnOk};
 ghost use Rattle.pc_body_spec.specs.Slots.{placed_from};
 
 use crate::local::Local;
-use pc_caps::List;
+use pc_base::List;
 use pc_resolve::{LocalSlots, Placed};
 use std::alloc::{AllocError, Global};
 

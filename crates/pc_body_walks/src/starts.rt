@@ -8,7 +8,7 @@ ghost use Rattle.pc_body_walks.specs.Checking.{TellsFirstBodyFault, created_faul
 
 use crate::checks::{check_constructor, check_create};
 use crate::fault::BodyFault;
-use pc_caps::Span;
+use pc_base::Span;
 use pc_resolve::{Constructors, Context, Meaning, Scope, TypeMeaning};
 use pc_tree::{Name, Suffix};
 

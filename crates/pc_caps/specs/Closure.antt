@@ -1,7 +1,7 @@
 -- The table of the order is the closure of the ten pairs.
 use Rattle.std.proofs.Common.{◌≡◌, Bool, true, false, List, [], ◌∷◌, refl, inl, inr, ◌&&◌, ◌||◌, not, IsTrue, ◌↔◌}
-use Rattle.pc_lists.proofs.Bools.{first_true, second_true}
-use Rattle.pc_caps.specs.{Tables.pairs, Tables.IsPairIn, Tables.IsBelow, Computed.is_below, Tables.IsBelow.same, Tables.IsBelow.step, declared.capability.Form.Form, declared.capability.Form.TheVariants.IsoE, declared.capability.Form.TheVariants.TrnE, declared.capability.Form.TheVariants.Iso, declared.capability.Form.TheVariants.Trn, declared.capability.Form.TheVariants.Ref, declared.capability.Form.TheVariants.Val, declared.capability.Form.TheVariants.Box, declared.capability.Form.TheVariants.Tag}
+use Rattle.pc_base.proofs.Bools.{first_true, second_true}
+use Rattle.pc_caps.specs.{Tables.{pairs, IsPairIn, IsBelow}, Computed.is_below, Tables.IsBelow.{same, step}, declared.capability.Form.Form, declared.capability.Form.TheVariants.{IsoE, TrnE, Iso, Trn, Ref, Val, Box, Tag}}
 
 -- reflexivity
 reflexive : (a : Form) → is_below a a ≡ true

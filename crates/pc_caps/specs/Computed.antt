@@ -1,6 +1,6 @@
 -- The order on forms, and what stands on it, as they are computed.
 use Rattle.std.specs.Prelude.{Bool, true, false, ◌&&◌}
-use Rattle.pc_caps.specs.{declared.capability.Form.Form, declared.capability.Form.TheVariants.IsoE, declared.capability.Form.TheVariants.TrnE, declared.capability.Form.TheVariants.Iso, declared.capability.Form.TheVariants.Trn, declared.capability.Form.TheVariants.Ref, declared.capability.Form.TheVariants.Val, declared.capability.Form.TheVariants.Box, declared.capability.Form.TheVariants.Tag, declared.capability.Cap.Cap, Tables.unalias, Tables.enters}
+use Rattle.pc_caps.specs.{declared.capability.Form.Form, declared.capability.Form.TheVariants.{IsoE, TrnE, Iso, Trn, Ref, Val, Box, Tag}, declared.capability.Cap.Cap, Tables.{unalias, enters}}
 
 -- The order as a table that computes.
 abbrev pub is_below : Form → Form → Bool

@@ -1,5 +1,4 @@
-pub mod formers
-pub mod Limits
 pub mod Tables
 pub mod Closure
 pub mod Computed
+pub mod Words

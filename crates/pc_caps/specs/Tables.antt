@@ -2,7 +2,7 @@
 -- form may be used wherever one of the larger is expected (the paper of 2015). And the tables on capabilities and forms:
 -- storing and sending follow the paper of 2015; the tables on fields and `recover` are this project's profile.
 use Rattle.std.specs.Prelude.{◌≡◌, ◌⊎◌, Bool, true, false, List, [], ◌∷◌, Option, Some, None}
-use Rattle.pc_caps.specs.{declared.capability.Form.Form, declared.capability.Form.TheVariants.IsoE, declared.capability.Form.TheVariants.TrnE, declared.capability.Form.TheVariants.Iso, declared.capability.Form.TheVariants.Trn, declared.capability.Form.TheVariants.Ref, declared.capability.Form.TheVariants.Val, declared.capability.Form.TheVariants.Box, declared.capability.Form.TheVariants.Tag, declared.capability.Cap.Cap}
+use Rattle.pc_caps.specs.{declared.capability.Form.Form, declared.capability.Form.TheVariants.{IsoE, TrnE, Iso, Trn, Ref, Val, Box, Tag}, declared.capability.Cap.Cap}
 use Rattle.pc_caps.specs.declared.capability.Cap.TheVariants as cap
 use Rattle.pc_caps.specs.declared.capability.Form.TheVariants as form
 

@@ -1,41 +1,17 @@
 -- A valid annotation agrees with a partial one up to a node.
 use Rattle.std.specs.Prelude.{◌≡◌, ◌⊎◌, ℕ, zero, suc, ◌+◌, ◌<◌, ◌≤◌, false, List, [], ◌∷◌, length, Option, Some, None, slice_get, slice_set, refl, Result, IfOk, IfErr}
-use Rattle.std.proofs.Common.{Ok, Err, inl, inr, ap, sym, subst, ◌∙◌, arith}
-use Rattle.std.proofs.lemmas.List.{length-set}
-use Rattle.std.proofs.lemmas.Option.{same_Some, none-some}
-use Rattle.std.proofs.lemmas.Bool.Decides.{eqb_tells}
-use Rattle.pc_lists.proofs.Gets.{get_below, get_within, get_set_same, get_set_other}
+use Rattle.std.proofs.{Common.{Ok, Err, inl, inr, ap, sym, subst, ◌∙◌, arith}, lemmas.List.length-set, lemmas.Option.{same_Some, none-some}, lemmas.Bool.Decides.eqb_tells}
+use Rattle.pc_base.proofs.{Gets.{get_below, get_within, get_set_same, get_set_other}, Bools.false_true}
 use Rattle.pc_caps.specs.declared.capability.Cap.{Cap}
-use Rattle.pc_core.specs.declared.declarations.Method.{Method}
-use Rattle.pc_core.specs.declared.nodes.Slot.{Slot}
-use Rattle.pc_core.specs.declared.nodes.Node.{Node}
-use Rattle.pc_core.specs.declared.nodes.NodeKind.{NodeKind}
+use Rattle.pc_core.specs.{declared.declarations.Method.Method, declared.nodes.Slot.Slot, declared.nodes.Node.Node, declared.nodes.NodeKind.NodeKind, CoreData.CoreData, Nodes.{HasArity, NamesFit}, Formed.Formed}
 use Rattle.pc_core.specs.declared.nodes.NodeKind.TheVariants as node
-use Rattle.pc_core.specs.CoreData.{CoreData}
-use Rattle.pc_core.specs.Nodes.{HasArity, NamesFit}
-use Rattle.pc_core.specs.Formed.{Formed}
-use Rattle.pc_ann.specs.declared.annotation.Note.{Note}
-use Rattle.pc_ann.specs.declared.annotation.Ann.{Ann}
-use Rattle.pc_valid.specs.Words.{Masks, before, masks_after}
-use Rattle.pc_valid.specs.Valid.{KeepsWritten, Valid}
-use Rattle.pc_valid.specs.NoRule.{DifferAt}
-use Rattle.pc_rules.specs.Rules.{says, said_by, IsSaid}
-use Rattle.pc_rules.specs.Checks.{Checks, StartsFrom, GoesWell, SaysNothing, StaysUnset, is_else}
-use Rattle.pc_rules.specs.Checks.StartsFrom.{body, first_child, else_branch, next_child}
-use Rattle.pc_rules.specs.Trees.{Tree, Forest, tree, empty, more, tree_le}
-use Rattle.pc_rules.proofs.Homes.{own_tree, children_of, children_before}
-use Rattle.pc_rules.proofs.Bridge.{meets_threads, meets_if_threads}
-use Rattle.pc_rules.proofs.Threads.{then_way, else_way, is_branch, first_starts, next_starts}
-use Rattle.pc_lists.proofs.Bools.{false_true}
-use Rattle.pc_rules.proofs.Alike.{looked_at, LooksAlike, slot_same, says_same}
-use Rattle.pc_rules.proofs.Agreeing.{Agree, body_says_at, body_starts, node_step, this_alike, use_alike}
+use Rattle.pc_ann.specs.{declared.annotation.Note.Note, declared.annotation.Ann.Ann}
+use Rattle.pc_valid.specs.{Words.{Masks, before, masks_after}, Valid.{KeepsWritten, Valid}, NoRule.DifferAt}
+use Rattle.pc_rules.specs.{Rules.{says, said_by, IsSaid}, Checks.{Checks, StartsFrom, GoesWell, SaysNothing, StaysUnset, is_else}, Checks.StartsFrom.{body, first_child, else_branch, next_child}, Trees.{Tree, Forest, tree, empty, more, tree_le}, Statements.OneValid}
+use Rattle.pc_rules.proofs.{Homes.{own_tree, children_of, children_before}, Bridge.{meets_threads, meets_if_threads}, Threads.{then_way, else_way, is_branch, first_starts, next_starts}, Alike.{looked_at, LooksAlike, slot_same, says_same}, Agreeing.{Agree, body_says_at, body_starts, node_step, this_alike, use_alike}, Derivations.{to_valid, to_no_rule, to_unset}}
 use Rattle.pc_sub.proofs.FirstFaults.{faulted}
-use Rattle.pc_rules.specs.Statements.{OneValid}
-use Rattle.pc_rules.proofs.Derivations.{to_valid, to_no_rule, to_unset}
-use Rattle.pc_check.specs.declared.fault.CheckFault.{CheckFault}
+use Rattle.pc_check.specs.{declared.fault.CheckFault.CheckFault, Faults.{RefusesCore, AnswersAnnotation}, Laws.{NoneWithoutRule, NoneWithUnset, NoneWithFault}}
 use Rattle.pc_check.specs.declared.fault.CheckFault.TheVariants as fault_of
-use Rattle.pc_check.specs.Faults.{RefusesCore, AnswersAnnotation}
-use Rattle.pc_check.specs.Laws.{NoneWithoutRule, NoneWithUnset, NoneWithFault}
 use Rattle.pc_check.proofs.Filling.{low_at, tree_at, low_next, low_behind}
 
 -- ---- a tree begins at one place

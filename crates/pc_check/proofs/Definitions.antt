@@ -1,26 +1,14 @@
 -- The slot that a node defines, and the nodes that use it.
 use Rattle.std.specs.Prelude.{◌≡◌, ◌⊎◌, ℕ, ◌+◌, ◌<◌, Option, Some, None, slice_get, refl}
-use Rattle.std.proofs.Common.{inl, inr, ap, sym, subst, ◌∙◌, arith}
-use Rattle.std.proofs.lemmas.Option.{same_Some, none-some}
-use Rattle.pc_lists.proofs.Gets.{get_below}
-use Rattle.pc_caps.specs.Tables.{stored}
-use Rattle.pc_caps.specs.declared.capability.Cap.{Cap}
-use Rattle.pc_core.specs.declared.declarations.Method.{Method}
-use Rattle.pc_core.specs.declared.nodes.Slot.{Slot}
-use Rattle.pc_core.specs.declared.nodes.Node.{Node}
-use Rattle.pc_core.specs.declared.nodes.NodeKind.{NodeKind}
+use Rattle.std.proofs.{Common.{inl, inr, ap, sym, subst, ◌∙◌, arith}, lemmas.Option.{same_Some, none-some}}
+use Rattle.pc_base.proofs.{Gets.get_below, Options.{bind_some, bind_is}}
+use Rattle.pc_caps.specs.{Tables.stored, declared.capability.Cap.Cap}
+use Rattle.pc_core.specs.{declared.declarations.Method.Method, declared.nodes.Slot.Slot, declared.nodes.Node.Node, declared.nodes.NodeKind.NodeKind, CoreData.CoreData, Methods.{LocalFits, UsesSlot}, Entities.this_slot, Nodes.NamesFit, Formed.Formed}
 use Rattle.pc_core.specs.declared.nodes.NodeKind.TheVariants as node
-use Rattle.pc_core.specs.CoreData.{CoreData}
-use Rattle.pc_lists.proofs.Options.{bind_some, bind_is}
-use Rattle.pc_core.specs.Methods.{LocalFits, UsesSlot}
-use Rattle.pc_core.specs.Entities.{this_slot}
-use Rattle.pc_core.specs.Nodes.{NamesFit}
-use Rattle.pc_core.specs.Formed.{Formed}
 use Rattle.pc_ann.specs.declared.annotation.Ann.{Ann}
 use Rattle.pc_rules.specs.Parts.{type_of, one_child}
 use Rattle.pc_valid.specs.Words.{Ty}
-use Rattle.pc_rules.proofs.Alike.{looked_at}
-use Rattle.pc_rules.proofs.Slotted.{slot_known, this_known}
+use Rattle.pc_rules.proofs.{Alike.looked_at, Slotted.{slot_known, this_known}}
 use Rattle.pc_check.specs.Inference.{unwritten, inferred_slot_type, inferred_slot}
 use Rattle.pc_core.proofs.Homes.{home, home_method}
 

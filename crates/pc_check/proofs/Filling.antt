@@ -1,24 +1,13 @@
 -- The sources of the children follow from that of their parent.
 use Rattle.std.specs.Prelude.{◌≡◌, ◌⊎◌, ℕ, zero, suc, ◌+◌, ◌-◌, ◌<◌, ◌≤◌, true, false, List, [], ◌∷◌, map, length, get_or, Some, slice_get, slice_set, refl}
-use Rattle.std.proofs.Common.{inl, inr, ap, sym, subst, ◌∙◌, arith}
-use Rattle.std.proofs.lemmas.List.{length-map, length-set}
-use Rattle.std.proofs.lemmas.Option.{same_Some, none-some, slice_get-get_or}
-use Rattle.std.proofs.lemmas.Bool.{cases_lt}
-use Rattle.pc_lists.proofs.Gets.{get_below, get_set, get_set_same, map_get}
-use Rattle.pc_core.specs.declared.nodes.Node.{Node}
-use Rattle.pc_core.specs.declared.nodes.NodeKind.{NodeKind}
+use Rattle.std.proofs.{Common.{inl, inr, ap, sym, subst, ◌∙◌, arith}, lemmas.List.{length-map, length-set}, lemmas.Option.{same_Some, none-some, slice_get-get_or}, lemmas.Bool.cases_lt}
+use Rattle.pc_base.proofs.{Gets.{get_below, get_set, get_set_same, map_get}, Bools.false_true}
+use Rattle.pc_core.specs.{declared.nodes.Node.Node, declared.nodes.NodeKind.NodeKind, CoreData.CoreData, Formed.Formed}
 use Rattle.pc_core.specs.declared.nodes.NodeKind.TheVariants as node
-use Rattle.pc_core.specs.CoreData.{CoreData}
-use Rattle.pc_core.specs.Formed.{Formed}
-use Rattle.pc_lists.proofs.Bools.{false_true}
-use Rattle.pc_rules.proofs.Agreeing.{body_method}
-use Rattle.pc_rules.specs.Trees.{Tree, Forest, more, body_tree, tree_le}
-use Rattle.pc_rules.specs.Checks.{is_else}
-use Rattle.pc_rules.specs.Checks.StartsFrom.{body, first_child, else_branch, next_child}
-use Rattle.pc_check.specs.declared.sources.Source.{Source}
+use Rattle.pc_rules.proofs.{Agreeing.body_method, Homes.{children_of, children_before}}
+use Rattle.pc_rules.specs.{Trees.{Tree, Forest, more, body_tree, tree_le}, Checks.is_else, Checks.StartsFrom.{body, first_child, else_branch, next_child}}
+use Rattle.pc_check.specs.{declared.sources.Source.Source, Sources.{Comes, IsPlacedSource, Sourced, IsBodyOrChild, Filled, PartFilled, PassesOn, ComesLater}}
 use Rattle.pc_check.specs.declared.sources.Source.TheVariants as source
-use Rattle.pc_check.specs.Sources.{Comes, IsPlacedSource, Sourced, IsBodyOrChild, Filled, PartFilled, PassesOn, ComesLater}
-use Rattle.pc_rules.proofs.Homes.{children_of, children_before}
 use Rattle.pc_check.proofs.Parents.{known}
 
 -- ---- where the trees of a sequence begin

@@ -1,33 +1,17 @@
 -- A core has at most one fault.
 use Rattle.std.specs.Prelude.{◌≡◌, ℕ, zero, suc, ◌+◌, ◌<◌, ◌≤◌, false, List, [], ◌∷◌, length, Some, slice_get, refl}
-use Rattle.std.proofs.Common.{inl, inr, ap, sym, subst, ◌∙◌, arith}
-use Rattle.std.proofs.lemmas.Option.{same_Some, none-some}
-use Rattle.std.proofs.lemmas.Bool.{cases_lt, cases_order}
-use Rattle.pc_lists.proofs.Gets.{get_below}
-use Rattle.pc_core.specs.declared.declarations.Method.{Method}
-use Rattle.pc_core.specs.declared.nodes.Node.{Node}
+use Rattle.std.proofs.{Common.{inl, inr, ap, sym, subst, ◌∙◌, arith}, lemmas.Option.{same_Some, none-some}, lemmas.Bool.{cases_lt, cases_order}}
+use Rattle.pc_base.proofs.{Gets.get_below, Bools.false_true}
+use Rattle.pc_core.specs.{declared.declarations.Method.Method, declared.nodes.Node.Node, CoreData.CoreData, Formed.Formed}
 use Rattle.pc_core.specs.declared.nodes.NodeKind.TheVariants as node
-use Rattle.pc_core.specs.CoreData.{CoreData}
-use Rattle.pc_core.specs.Formed.{Formed}
-use Rattle.pc_ann.specs.declared.annotation.Note.{Note}
-use Rattle.pc_ann.specs.declared.annotation.Ann.{Ann}
+use Rattle.pc_ann.specs.{declared.annotation.Note.Note, declared.annotation.Ann.Ann}
 use Rattle.pc_masks.specs.Masks.{first}
-use Rattle.pc_valid.specs.Words.{Masks, before, masks_after}
-use Rattle.pc_valid.specs.Valid.{KeepsWritten}
-use Rattle.pc_rules.specs.Control.{start_set}
-use Rattle.pc_rules.specs.Rules.{IsSaid}
-use Rattle.pc_rules.specs.Checks.{FillsFields, StartsFrom, GoesWell, SaysNothing, StaysUnset, is_else}
-use Rattle.pc_rules.specs.Checks.StartsFrom.{body, first_child, else_branch, next_child}
-use Rattle.pc_rules.specs.Trees.{Tree, Forest, tree, empty, more, body_tree, tree_le}
+use Rattle.pc_valid.specs.{Words.{Masks, before, masks_after}, Valid.KeepsWritten}
+use Rattle.pc_rules.specs.{Control.start_set, Rules.IsSaid, Checks.{FillsFields, StartsFrom, GoesWell, SaysNothing, StaysUnset, is_else}, Checks.StartsFrom.{body, first_child, else_branch, next_child}, Trees.{Tree, Forest, tree, empty, more, body_tree, tree_le}}
 use Rattle.pc_core.proofs.Homes.{Home, home}
-use Rattle.pc_rules.proofs.Homes.{home_body, own_tree, children_of, children_before}
-use Rattle.pc_lists.proofs.Bools.{false_true}
-use Rattle.pc_rules.proofs.Agreeing.{Agree, node_step}
-use Rattle.pc_rules.proofs.Derivations.{to_no_rule, to_unset, to_reached}
+use Rattle.pc_rules.proofs.{Homes.{home_body, own_tree, children_of, children_before}, Agreeing.{Agree, node_step}, Derivations.{to_no_rule, to_unset, to_reached}}
 use Rattle.pc_check.specs.Laws.{OneNode, OneConstructor, OneKindOfFault, PrefixesAgree}
-use Rattle.pc_check.proofs.Filling.{low_at, tree_at, low_le}
-use Rattle.pc_check.proofs.Parents.{earlier_body}
-use Rattle.pc_check.proofs.Agreement.{tree_one, reaches_same, nothing_yet, chosen, says_there}
+use Rattle.pc_check.proofs.{Filling.{low_at, tree_at, low_le}, Parents.earlier_body, Agreement.{tree_one, reaches_same, nothing_yet, chosen, says_there}}
 
 -- ---- a node has one parent
 

@@ -1,14 +1,9 @@
 -- The parent of a node, and the order of methods.
 use Rattle.std.specs.Prelude.{◌≡◌, ◌⊎◌, ℕ, zero, suc, ◌+◌, ◌-◌, ◌<◌, ◌≤◌, List, [], ◌∷◌, map, length, Some, slice_get}
-use Rattle.std.proofs.Common.{inl, inr, ap, subst, ◌∙◌, arith}
-use Rattle.std.proofs.lemmas.Option.{same_Some, none-some}
-use Rattle.std.proofs.lemmas.Bool.{cases_lt}
-use Rattle.pc_core.specs.declared.declarations.Method.{Method}
-use Rattle.pc_core.specs.CoreData.{CoreData, node_end}
-use Rattle.pc_lists.specs.Lists.{Follow, Has}
-use Rattle.pc_lists.proofs.Ranges.{run_within}
-use Rattle.pc_lists.proofs.Gets.{get_map}
-use Rattle.pc_core.specs.Formed.{Formed}
+use Rattle.std.proofs.{Common.{inl, inr, ap, subst, ◌∙◌, arith}, lemmas.Option.{same_Some, none-some}, lemmas.Bool.cases_lt}
+use Rattle.pc_core.specs.{declared.declarations.Method.Method, CoreData.{CoreData, node_end}, Formed.Formed}
+use Rattle.pc_base.specs.Lists.{Follow, Has}
+use Rattle.pc_base.proofs.{Ranges.run_within, Gets.get_map}
 use Rattle.pc_rules.specs.Trees.{Tree, Forest, tree, empty, more, body_tree}
 use Rattle.pc_core.proofs.Homes.{home}
 use Rattle.pc_check.specs.Sources.{IsChild, IsBodyOrChild}

@@ -1,51 +1,20 @@
 -- What shows that there is no annotation.
 use Rattle.std.specs.Prelude.{◌≡◌, ◌⊎◌, ℕ, zero, suc, ◌+◌, ◌<◌, true, false, not, List, [], ◌∷◌, length, Option, Some, None, slice_get, slice_set, refl}
-use Rattle.std.proofs.Common.{inl, inr, ap, sym, subst, ◌∙◌, arith}
-use Rattle.std.proofs.lemmas.List.{length-append}
-use Rattle.std.proofs.lemmas.Option.{same_Some, none-some}
-use Rattle.std.proofs.lemmas.Bool.{and_parts, not-true}
-use Rattle.pc_lists.proofs.Gets.{get_below, get_set_same}
-use Rattle.pc_caps.specs.Tables.{stored}
-use Rattle.pc_caps.specs.declared.capability.Cap.{Cap}
-use Rattle.pc_core.specs.declared.declarations.Method.{Method}
-use Rattle.pc_core.specs.declared.nodes.Slot.{Slot}
-use Rattle.pc_core.specs.declared.nodes.Node.{Node}
-use Rattle.pc_core.specs.declared.nodes.NodeKind.{NodeKind}
+use Rattle.std.proofs.{Common.{inl, inr, ap, sym, subst, ◌∙◌, arith}, lemmas.List.length-append, lemmas.Option.{same_Some, none-some}, lemmas.Bool.{and_parts, not-true}}
+use Rattle.pc_base.proofs.{Gets.{get_below, get_set_same}, Bools.false_true}
+use Rattle.pc_caps.specs.{Tables.stored, declared.capability.Cap.Cap}
+use Rattle.pc_core.specs.{declared.declarations.Method.Method, declared.nodes.Slot.Slot, declared.nodes.Node.Node, declared.nodes.NodeKind.NodeKind, CoreData.CoreData, Methods.UsesSlot, Nodes.NamesFit, Formed.Formed}
 use Rattle.pc_core.specs.declared.nodes.NodeKind.TheVariants as node
-use Rattle.pc_core.specs.CoreData.{CoreData}
-use Rattle.pc_lists.specs.Lists.{Each, Has, ◌>>=◌}
-use Rattle.pc_core.specs.Methods.{UsesSlot}
-use Rattle.pc_core.specs.Nodes.{NamesFit}
-use Rattle.pc_core.specs.Formed.{Formed}
-use Rattle.pc_ann.specs.declared.annotation.Note.{Note}
-use Rattle.pc_ann.specs.declared.annotation.Ann.{Ann}
-use Rattle.pc_ann.specs.declared.annotation.Rule.{Rule}
+use Rattle.pc_base.specs.Lists.{Each, Has, ◌>>=◌}
+use Rattle.pc_ann.specs.{declared.annotation.Note.Note, declared.annotation.Ann.Ann, declared.annotation.Rule.Rule}
 use Rattle.pc_ann.specs.declared.annotation.Rule.TheVariants as rule
 use Rattle.pc_sub.specs.Declarations.{DeclOk}
-use Rattle.pc_rules.specs.declared.said.Said.{Said}
-use Rattle.pc_rules.specs.Parts.{constructs, full, notes_of}
-use Rattle.pc_valid.specs.Words.{Masks, before}
-use Rattle.pc_valid.specs.NoRule.{Infers, DifferAt}
-use Rattle.pc_rules.specs.Values.{defined_type}
-use Rattle.pc_rules.specs.Rules.{says, IsSaid}
-use Rattle.pc_rules.specs.Checks.{StartsFrom}
-use Rattle.pc_rules.proofs.Derivations.{no_rule_to, unset_to}
-use Rattle.pc_rules.proofs.Alike.{looked_at, LooksAlike, slot_same, says_same}
-use Rattle.pc_lists.proofs.Bools.{false_true}
-use Rattle.pc_rules.proofs.OneRule.{define_rule}
-use Rattle.pc_rules.proofs.Bridge.{by_number}
-use Rattle.pc_rules.proofs.Agreeing.{define_inv, slot_parts}
-use Rattle.pc_check.specs.declared.sources.Source.{Source}
-use Rattle.pc_check.specs.Sources.{Sourced}
-use Rattle.pc_check.specs.Inference.{inferred_slot, with_inferred_slot, with_inferred, rules_for, note_or_else, first_note, is_body, lacks_field, leaves_unset}
-use Rattle.pc_check.specs.SourceMasks.{masks_from}
-use Rattle.pc_check.specs.Faults.{StopsAt, InferenceLeavesUnset}
-use Rattle.pc_check.specs.Walked.{Walked}
+use Rattle.pc_rules.specs.{declared.said.Said.Said, Parts.{constructs, full, notes_of}, Values.defined_type, Rules.{says, IsSaid}, Checks.StartsFrom}
+use Rattle.pc_valid.specs.{Words.{Masks, before}, NoRule.{Infers, DifferAt}}
+use Rattle.pc_rules.proofs.{Derivations.{no_rule_to, unset_to}, Alike.{looked_at, LooksAlike, slot_same, says_same}, OneRule.define_rule, Bridge.by_number, Agreeing.{define_inv, slot_parts}, Homes.home_body}
+use Rattle.pc_check.specs.{declared.sources.Source.Source, Sources.Sourced, Inference.{inferred_slot, with_inferred_slot, with_inferred, rules_for, note_or_else, first_note, is_body, lacks_field, leaves_unset}, SourceMasks.masks_from, Faults.{StopsAt, InferenceLeavesUnset}, Walked.Walked}
 use Rattle.pc_core.proofs.Homes.{home, home_method}
-use Rattle.pc_rules.proofs.Homes.{home_body}
-use Rattle.pc_check.proofs.Parents.{earlier_body}
-use Rattle.pc_check.proofs.Definitions.{slot_follows, looked_kind}
-use Rattle.pc_check.proofs.Walking.{walked_infer, reached, reaches_infer, noted, note_here, meets_noted, sets_noted, with_notes}
+use Rattle.pc_check.proofs.{Parents.earlier_body, Definitions.{slot_follows, looked_kind}, Walking.{walked_infer, reached, reaches_infer, noted, note_here, meets_noted, sets_noted, with_notes}}
 
 -- ---- no rule
 

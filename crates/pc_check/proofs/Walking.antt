@@ -1,42 +1,18 @@
 -- One more node.
 use Rattle.std.specs.Prelude.{◌≡◌, ◌⊎◌, ℕ, ◌+◌, ◌<◌, ◌≤◌, true, false, not, ◌&&◌, List, [], ◌∷◌, ◌++◌, length, Option, Some, None, slice_get, slice_set, refl}
-use Rattle.std.proofs.Common.{inl, inr, ap, sym, subst, ◌∙◌, arith}
-use Rattle.std.proofs.lemmas.List.{length-set, length-append}
-use Rattle.std.proofs.lemmas.Option.{same_Some, none-some}
-use Rattle.std.proofs.lemmas.Bool.{cases_lt, not-false}
-use Rattle.std.proofs.lemmas.Bool.Decides.{eqb_tells}
-use Rattle.pc_lists.proofs.Gets.{get_below, get_within, get_front, get_behind, get_set_other}
+use Rattle.std.proofs.{Common.{inl, inr, ap, sym, subst, ◌∙◌, arith}, lemmas.List.{length-set, length-append}, lemmas.Option.{same_Some, none-some}, lemmas.Bool.{cases_lt, not-false}, lemmas.Bool.Decides.eqb_tells}
+use Rattle.pc_base.proofs.Gets.{get_below, get_within, get_front, get_behind, get_set_other}
 use Rattle.pc_caps.specs.declared.capability.Cap.{Cap}
-use Rattle.pc_core.specs.declared.declarations.Method.{Method}
-use Rattle.pc_core.specs.declared.nodes.Slot.{Slot}
-use Rattle.pc_core.specs.declared.nodes.Node.{Node}
-use Rattle.pc_core.specs.declared.nodes.NodeKind.{NodeKind}
+use Rattle.pc_core.specs.{declared.declarations.Method.Method, declared.nodes.Slot.Slot, declared.nodes.Node.Node, declared.nodes.NodeKind.NodeKind, CoreData.CoreData, Formed.Formed}
 use Rattle.pc_core.specs.declared.nodes.NodeKind.TheVariants as node
-use Rattle.pc_core.specs.CoreData.{CoreData}
-use Rattle.pc_lists.specs.Lists.{Each}
-use Rattle.pc_core.specs.Formed.{Formed}
-use Rattle.pc_ann.specs.declared.annotation.Note.{Note}
-use Rattle.pc_ann.specs.declared.annotation.Ann.{Ann}
-use Rattle.pc_ann.specs.declared.annotation.Rule.{Rule}
+use Rattle.pc_base.specs.Lists.{Each}
+use Rattle.pc_ann.specs.{declared.annotation.Note.Note, declared.annotation.Ann.Ann, declared.annotation.Rule.Rule}
 use Rattle.pc_sub.specs.Declarations.{DeclOk}
-use Rattle.pc_rules.specs.declared.said.Said.{Said}
-use Rattle.pc_rules.specs.Parts.{constructs, full}
-use Rattle.pc_valid.specs.Words.{Masks, before}
-use Rattle.pc_rules.specs.Rules.{says, IsSaid}
-use Rattle.pc_valid.specs.Valid.{Valid}
-use Rattle.pc_rules.specs.Checks.{FillsFields, StartsFrom, GoesWell}
-use Rattle.pc_rules.proofs.Derivations.{valid_to}
-use Rattle.pc_rules.specs.Checks.StartsFrom.{body, first_child, else_branch, next_child}
-use Rattle.pc_rules.proofs.Alike.{LooksAlike, SameNotes, slot_same, says_same}
-use Rattle.pc_rules.specs.Trees.{tree_le}
-use Rattle.pc_rules.proofs.Agreeing.{body_method}
-use Rattle.pc_check.specs.declared.sources.Source.{Source}
+use Rattle.pc_rules.specs.{declared.said.Said.Said, Parts.{constructs, full}, Rules.{says, IsSaid}, Checks.{FillsFields, StartsFrom, GoesWell}, Checks.StartsFrom.{body, first_child, else_branch, next_child}, Trees.tree_le}
+use Rattle.pc_valid.specs.{Words.{Masks, before}, Valid.Valid}
+use Rattle.pc_rules.proofs.{Derivations.valid_to, Alike.{LooksAlike, SameNotes, slot_same, says_same}, Agreeing.body_method, Homes.children_before}
+use Rattle.pc_check.specs.{declared.sources.Source.Source, Sources.{Comes, IsPlacedSource}, Inference.{inferred_slot, with_inferred_slot, with_inferred, note_of, note_or_else, first_note, is_body, lacks_field, leaves_unset}, SourceMasks.{masks_in, masks_behind, masks_from}, Walked.Walked}
 use Rattle.pc_check.specs.declared.sources.Source.TheVariants as source
-use Rattle.pc_check.specs.Sources.{Comes, IsPlacedSource}
-use Rattle.pc_check.specs.Inference.{inferred_slot, with_inferred_slot, with_inferred, note_of, note_or_else, first_note, is_body, lacks_field, leaves_unset}
-use Rattle.pc_check.specs.SourceMasks.{masks_in, masks_behind, masks_from}
-use Rattle.pc_check.specs.Walked.{Walked}
-use Rattle.pc_rules.proofs.Homes.{children_before}
 use Rattle.pc_check.proofs.Definitions.{inferred_inv, other_place}
 
 -- ---- an extension keeps what was there

@@ -3,7 +3,7 @@ use Rattle.std.specs.Prelude.{◌≡◌, ◌⊎◌, ℕ, ◌+◌, length, Result
 use Rattle.pc_core.specs.CoreData.{CoreData}
 use Rattle.pc_ann.specs.declared.annotation.Ann.{Ann}
 use Rattle.pc_sub.specs.FirstFault.{IsFirstDeclarationFault}
-use Rattle.pc_valid.specs.{Words.Masks, NoRule.NoRule, NoRule.Unset}
+use Rattle.pc_valid.specs.{Words.Masks, NoRule.{NoRule, Unset}}
 use Rattle.pc_check.specs.declared.fault.CheckFault.{CheckFault}
 use Rattle.pc_check.specs.declared.fault.CheckFault.TheVariants as fault
 

@@ -4,10 +4,10 @@ use Rattle.std.specs.Prelude.{ℕ, ◌+◌, Bool, true, false, ◌&&◌, not, Li
 use Rattle.pc_caps.specs.{Tables.stored, declared.capability.Cap.Cap}
 use Rattle.pc_tree.specs.Kinds.{none_entity}
 use Rattle.pc_core.specs.{declared.declarations.Method.Method, declared.nodes.Slot.Slot, declared.nodes.Node.Node, declared.nodes.NodeKind.NodeKind, CoreData.CoreData}
-use Rattle.pc_lists.specs.Lists.{◌>>=◌}
+use Rattle.pc_base.specs.Lists.{◌>>=◌}
 use Rattle.pc_masks.specs.declared.mask.Mask.{Mask}
 use Rattle.pc_ann.specs.{declared.annotation.Note.Note, declared.annotation.Ann.Ann, declared.annotation.Rule.Rule}
-use Rattle.pc_rules.specs.{declared.said.Said.Said, Parts.constructs, Parts.full, Parts.type_of, Parts.one_child, Rules.says}
+use Rattle.pc_rules.specs.{declared.said.Said.Said, Parts.{constructs, full, type_of, one_child}, Rules.says}
 use Rattle.pc_valid.specs.Words.{Ty, Masks}
 use Rattle.pc_caps.specs.declared.capability.Cap.TheVariants as cap
 use Rattle.pc_core.specs.declared.nodes.NodeKind.TheVariants as node

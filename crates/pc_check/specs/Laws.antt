@@ -3,7 +3,7 @@ use Rattle.std.specs.Prelude.{◌≡◌, ℕ, ◌<◌, slice_get}
 use Rattle.pc_core.specs.{CoreData.CoreData, Formed.Formed}
 use Rattle.pc_ann.specs.declared.annotation.Ann.{Ann}
 use Rattle.pc_sub.specs.{declared.faults.DeclFault.DeclFault, FirstFault.IsFirstDeclarationFault}
-use Rattle.pc_valid.specs.{Valid.Derivable, Valid.KeepsWritten, NoRule.NoRule, NoRule.Unset, NoRule.MeetsReached}
+use Rattle.pc_valid.specs.{Valid.{Derivable, KeepsWritten}, NoRule.{NoRule, Unset, MeetsReached}}
 
 -- A core with a node to which no rule applies has no valid annotation.
 abbrev pub NoneWithoutRule : Type 0

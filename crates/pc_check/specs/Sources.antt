@@ -1,7 +1,7 @@
 -- Where the masks that reach a node come from.
 use Rattle.std.specs.Prelude.{◌≡◌, ◌⊎◌, ℕ, ◌+◌, ◌<◌, ◌≤◌, List, length, Some, slice_get}
 use Rattle.pc_core.specs.{declared.declarations.Method.Method, declared.nodes.Node.Node, CoreData.CoreData}
-use Rattle.pc_lists.specs.Lists.{Each, Has}
+use Rattle.pc_base.specs.Lists.{Each, Has}
 use Rattle.pc_ann.specs.{declared.annotation.Note.Note, declared.annotation.Ann.Ann}
 use Rattle.pc_masks.specs.Masks.{first}
 use Rattle.pc_valid.specs.Words.{Masks, masks_after}

@@ -1,7 +1,7 @@
 -- A partial annotation.
 use Rattle.std.specs.Prelude.{◌≡◌, ℕ, ◌<◌, length, Some}
 use Rattle.pc_core.specs.CoreData.{CoreData}
-use Rattle.pc_lists.specs.Lists.{Each}
+use Rattle.pc_base.specs.Lists.{Each}
 use Rattle.pc_ann.specs.declared.annotation.Ann.{Ann}
 use Rattle.pc_rules.specs.Checks.{FillsFields, GoesWell}
 use Rattle.pc_valid.specs.Valid.{KeepsWritten}

@@ -15,7 +15,7 @@ use crate::inference::{infer_note, leaves_unset, masks_from};
 use crate::slots::{first_types, infer_slot};
 use crate::sources::{Source, source_at, sources};
 use pc_ann::{Ann, Note};
-use pc_caps::List;
+use pc_base::List;
 use pc_core::Core;
 use pc_rules::one_annotation_is_valid;
 use pc_sub::declarations;

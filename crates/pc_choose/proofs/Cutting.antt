@@ -1,19 +1,10 @@
 -- A list consists of turns.
 use Rattle.std.proofs.Common.{◌≡◌, ℕ, zero, suc, ◌+◌, ◌-◌, ◌<◌, ◌≤◌, List, [], ◌∷◌, ◌++◌, length, replicate, Option, Some, None, inl, inr, refl, sym, ap, subst, arith}
-use Rattle.std.specs.Prelude.{IsSomeAnd, ◌⊎◌}
-use Rattle.std.specs.List.{AllByRecursion}
+use Rattle.std.specs.{Prelude.{IsSomeAnd, ◌⊎◌}, List.AllByRecursion}
 use Rattle.pc_core.specs.CoreData.{CoreData}
-use Rattle.pc_semantics.specs.declared.outcome.Outcome.{Outcome}
-use Rattle.pc_semantics.specs.declared.outcome.Outcome.TheVariants.{Moved, Skipped, Lacks, TooLong}
-use Rattle.pc_semantics.specs.Configurations.{Configuration, start}
-use Rattle.pc_semantics.specs.Step.{step}
-use Rattle.pc_semantics.specs.Text.{steps_of}
-use Rattle.pc_choose.specs.declared.point.Point.{Point}
-use Rattle.pc_choose.specs.Choice.{at_first, most_turns, stepped, turn}
-use Rattle.pc_choose.specs.Lists.{AfterStep, Follows, most_steps}
-use Rattle.pc_choose.specs.Laws.{InTurns, IsTurn, ListsAreInTurns}
-use Rattle.pc_choose.proofs.Picking.{Begun, Turned, turned}
-use Rattle.pc_choose.proofs.Reached.{few_at_start, one_comes}
+use Rattle.pc_semantics.specs.{declared.outcome.Outcome.Outcome, declared.outcome.Outcome.TheVariants.{Moved, Skipped, Lacks, TooLong}, Configurations.{Configuration, start}, Step.step, Text.steps_of}
+use Rattle.pc_choose.specs.{declared.point.Point.Point, Choice.{at_first, most_turns, stepped, turn}, Lists.{AfterStep, Follows, most_steps}, Laws.{InTurns, IsTurn, ListsAreInTurns}}
+use Rattle.pc_choose.proofs.{Picking.{Begun, Turned, turned}, Reached.{few_at_start, one_comes}}
 
 -- The list is some steps of the turn at a point, and then turns.
 record Cut (p : Point) (list : List ℕ) : Type 0 where

@@ -1,22 +1,10 @@
 -- How a list ends.
-use Rattle.std.proofs.Common.{◌≡◌, ◌≢◌, ℕ, zero, suc, ◌+◌, ◌*◌, ◌<◌, ◌≤◌, Bool, true, false, nat_lt, get_or, ◌/◌, ◌%◌, List, [], ◌∷◌, ◌++◌, length, Option, Some, None, inl, inr, refl, sym, ap, subst, ◌∙◌, arith}
-use Rattle.std.proofs.lemmas.Nat.{mod_below}
-use Rattle.std.proofs.lemmas.Bool.{ltb-false}
-use Rattle.std.proofs.lemmas.Option.{slice_get_cases, slice_get-get_or}
-use Rattle.std.specs.Prelude.{IsSomeAnd, cond, ◌&&◌, ◌⊎◌, filter, slice_get, if◌then◌else◌}
-use Rattle.std.specs.List.{range_with_len}
+use Rattle.std.proofs.{Common.{◌≡◌, ◌≢◌, ℕ, zero, suc, ◌+◌, ◌*◌, ◌<◌, ◌≤◌, Bool, true, false, nat_lt, get_or, ◌/◌, ◌%◌, List, [], ◌∷◌, ◌++◌, length, Option, Some, None, inl, inr, refl, sym, ap, subst, ◌∙◌, arith}, lemmas.Nat.mod_below, lemmas.Bool.ltb-false, lemmas.Option.{slice_get_cases, slice_get-get_or}}
+use Rattle.std.specs.{Prelude.{IsSomeAnd, cond, ◌&&◌, ◌⊎◌, filter, slice_get, if◌then◌else◌}, List.range_with_len}
 use Rattle.pc_core.specs.CoreData.{CoreData}
-use Rattle.pc_semantics.specs.declared.outcome.Outcome.{Outcome}
-use Rattle.pc_semantics.specs.declared.outcome.Outcome.TheVariants.{Moved, Skipped, Lacks, TooLong}
-use Rattle.pc_semantics.specs.Configurations.{Configuration, start}
-use Rattle.pc_semantics.specs.Step.{followed, run_from, step}
+use Rattle.pc_semantics.specs.{declared.outcome.Outcome.Outcome, declared.outcome.Outcome.TheVariants.{Moved, Skipped, Lacks, TooLong}, Configurations.{Configuration, start}, Step.{followed, run_from, step}}
 use Rattle.pc_draws.specs.Draws.{state}
-use Rattle.pc_choose.specs.declared.point.Point.{Point}
-use Rattle.pc_choose.specs.declared.point.Picked.{Picked}
-use Rattle.pc_choose.specs.Able.{able, is_able, able_actors}
-use Rattle.pc_choose.specs.Choice.{turn, new_turn, turn_of, picked, picks, or_new_round, next_in_round, stepped, at_first, most_turns}
-use Rattle.pc_choose.specs.Lists.{AfterStep, Follows, most_steps}
-use Rattle.pc_choose.specs.Laws.{EndsAt, ListsEnd}
+use Rattle.pc_choose.specs.{declared.point.Point.Point, declared.point.Picked.Picked, Able.{able, is_able, able_actors}, Choice.{turn, new_turn, turn_of, picked, picks, or_new_round, next_in_round, stepped, at_first, most_turns}, Lists.{AfterStep, Follows, most_steps}, Laws.{EndsAt, ListsEnd}}
 
 -- ---- if no one is picked, no actor is able
 

@@ -1,23 +1,10 @@
 -- Round robin is fair.
-use Rattle.std.proofs.Common.{◌≡◌, ◌≢◌, ℕ, zero, suc, ◌+◌, ◌-◌, ◌*◌, ◌<◌, ◌≤◌, Bool, true, false, nat_eq, nat_lt, List, [], ◌∷◌, ◌++◌, length, Option, Some, None, inl, inr, refl, sym, ap, ◌∙◌, arith}
-use Rattle.std.proofs.Math.Nat.{eq-or-lt_of_le}
-use Rattle.std.proofs.lemmas.Bool.{and_parts, eqb-false, eqb-true, ltb-false, ltb-true}
+use Rattle.std.proofs.{Common.{◌≡◌, ◌≢◌, ℕ, zero, suc, ◌+◌, ◌-◌, ◌*◌, ◌<◌, ◌≤◌, Bool, true, false, nat_eq, nat_lt, List, [], ◌∷◌, ◌++◌, length, Option, Some, None, inl, inr, refl, sym, ap, ◌∙◌, arith}, Math.Nat.eq-or-lt_of_le, lemmas.Bool.{and_parts, eqb-false, eqb-true, ltb-false, ltb-true}}
 use Rattle.std.specs.Prelude.{IsSomeAnd, if◌then◌else◌, slice_get, ◌&&◌, ◌⊎◌}
 use Rattle.pc_core.specs.CoreData.{CoreData}
-use Rattle.pc_semantics.specs.declared.outcome.Outcome.{Outcome}
-use Rattle.pc_semantics.specs.declared.outcome.Outcome.TheVariants.{Moved, Skipped, Lacks, TooLong}
-use Rattle.pc_semantics.specs.Configurations.{Configuration, start}
-use Rattle.pc_semantics.specs.Step.{after, step}
-use Rattle.pc_choose.specs.declared.point.Point.{Point}
-use Rattle.pc_choose.specs.declared.point.Picked.{Picked}
-use Rattle.pc_choose.specs.Able.{able, able_actors}
-use Rattle.pc_choose.specs.Choice.{at_first, most_times, most_turns, new_turn, next_in_round, or_new_round, picked, picks, stepped, turn, turn_of}
-use Rattle.pc_choose.specs.Lists.{AfterStep, Follows, most_steps}
-use Rattle.pc_choose.specs.Laws.{RoundRobinIsFair, StepsWithin, longest_wait}
-use Rattle.pc_choose.proofs.Listing.{never}
-use Rattle.pc_choose.proofs.Picking.{NotAbove, able_there, among, lowest}
-use Rattle.pc_choose.proofs.Reached.{IsBounded, Stands, stands}
-use Rattle.pc_choose.proofs.Staying.{able_stay}
+use Rattle.pc_semantics.specs.{declared.outcome.Outcome.Outcome, declared.outcome.Outcome.TheVariants.{Moved, Skipped, Lacks, TooLong}, Configurations.{Configuration, start}, Step.{after, step}}
+use Rattle.pc_choose.specs.{declared.point.Point.Point, declared.point.Picked.Picked, Able.{able, able_actors}, Choice.{at_first, most_times, most_turns, new_turn, next_in_round, or_new_round, picked, picks, stepped, turn, turn_of}, Lists.{AfterStep, Follows, most_steps}, Laws.{RoundRobinIsFair, StepsWithin, longest_wait}}
+use Rattle.pc_choose.proofs.{Listing.never, Picking.{NotAbove, able_there, among, lowest}, Reached.{IsBounded, Stands, stands}, Staying.able_stay}
 
 -- After the turn of actor x, in a round of r actors, this many turns suffice until one of j has begun: j comes in this round; or
 -- the rest of the round and then those up to j.

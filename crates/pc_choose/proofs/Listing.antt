@@ -2,14 +2,8 @@
 use Rattle.std.proofs.Common.{◌≡◌, ℕ, zero, suc, ◌≤◌, List, [], ◌∷◌, ◌++◌, length, Option, Some, None, refl, sym, ap, subst, ◌∙◌, arith}
 use Rattle.std.specs.Prelude.{IsSomeAnd}
 use Rattle.pc_core.specs.CoreData.{CoreData}
-use Rattle.pc_semantics.specs.declared.outcome.Outcome.{Outcome}
-use Rattle.pc_semantics.specs.declared.outcome.Outcome.TheVariants.{Moved, Skipped, Lacks, TooLong}
-use Rattle.pc_semantics.specs.Configurations.{Configuration, start}
-use Rattle.pc_semantics.specs.Step.{followed, run_from, step}
-use Rattle.pc_choose.specs.declared.point.Point.{Point}
-use Rattle.pc_choose.specs.Choice.{turn, stepped, at_first}
-use Rattle.pc_choose.specs.Lists.{AfterStep, Follows, most_steps}
-use Rattle.pc_choose.specs.Laws.{ListsAreOne, ListsAreShort, StepsMove}
+use Rattle.pc_semantics.specs.{declared.outcome.Outcome.Outcome, declared.outcome.Outcome.TheVariants.{Moved, Skipped, Lacks, TooLong}, Configurations.{Configuration, start}, Step.{followed, run_from, step}}
+use Rattle.pc_choose.specs.{declared.point.Point.Point, Choice.{turn, stepped, at_first}, Lists.{AfterStep, Follows, most_steps}, Laws.{ListsAreOne, ListsAreShort, StepsMove}}
 
 -- no list with a first number is empty
 abbrev Filled : List ℕ → Type 0

@@ -1,29 +1,13 @@
 -- How a step changes the marks.
-use Rattle.std.proofs.Common.{◌≡◌, ℕ, zero, suc, ◌+◌, ◌<◌, Bool, true, List, [], ◌∷◌, ◌++◌, length, map, set, Option, Some, None, refl, sym, ap, ◌∙◌, subst, arith}
+use Rattle.std.proofs.{Common.{◌≡◌, ℕ, zero, suc, ◌+◌, ◌<◌, Bool, true, List, [], ◌∷◌, ◌++◌, length, map, set, Option, Some, None, refl, sym, ap, ◌∙◌, subst, arith}, lemmas.List.{length-map, length-set, map-set, map_push}, lemmas.Option.slice_get_within}
 use Rattle.std.specs.Prelude.{slice_get, slice_set}
-use Rattle.std.proofs.lemmas.List.{length-map, length-set, map-set, map_push}
-use Rattle.std.proofs.lemmas.Option.{slice_get_within}
 use Rattle.pc_heap.specs.declared.value.Value.{Value}
 use Rattle.pc_heap.specs.declared.value.Value.TheVariants as value
-use Rattle.pc_core.specs.CoreData.{CoreData}
-use Rattle.pc_core.specs.declared.declarations.Method.{Method}
-use Rattle.pc_semantics.specs.declared.ahead.Ahead.{Ahead}
+use Rattle.pc_core.specs.{CoreData.CoreData, declared.declarations.Method.Method}
+use Rattle.pc_semantics.specs.{declared.ahead.Ahead.Ahead, Ahead.{by_move, by_outcome, of_frames, ahead_of}, Parts.{of_tasks, of_actor, delivered, run_task, step_of, begin_method, begun}, declared.actors.Actor.Actor, declared.frames.Frame.Frame, declared.frames.Task.Task, declared.mailbox.Message.Message, declared.outcome.Lack.Lack, declared.outcome.Outcome.Outcome, declared.outcome.Outcome.TheVariants.{Moved, Skipped, Lacks, TooLong}, Configurations.{Configuration, with_frames, Move, Stuck, Overflows, Goes, Writes, Makes, Spawns, Enters, Sends, Leaves}, Step.{around, made, run_frames, step, take, take_first, printed_text}}
 use Rattle.pc_semantics.specs.declared.ahead.Ahead.TheVariants as ahead
-use Rattle.pc_semantics.specs.Ahead.{by_move, by_outcome, of_frames, ahead_of}
-use Rattle.pc_semantics.specs.Parts.{of_tasks, of_actor, delivered, run_task, step_of, begin_method, begun}
-use Rattle.pc_semantics.specs.declared.actors.Actor.{Actor}
-use Rattle.pc_semantics.specs.declared.frames.Frame.{Frame}
-use Rattle.pc_semantics.specs.declared.frames.Task.{Task}
-use Rattle.pc_semantics.specs.declared.mailbox.Message.{Message}
-use Rattle.pc_semantics.specs.declared.outcome.Lack.{Lack}
-use Rattle.pc_semantics.specs.declared.outcome.Outcome.{Outcome}
-use Rattle.pc_semantics.specs.declared.outcome.Outcome.TheVariants.{Moved, Skipped, Lacks, TooLong}
-use Rattle.pc_semantics.specs.Configurations.{Configuration, with_frames, Move, Stuck, Overflows, Goes, Writes, Makes, Spawns, Enters, Sends, Leaves}
-use Rattle.pc_semantics.specs.Step.{around, made, run_frames, step, take, take_first, printed_text}
-use Rattle.pc_choose.specs.Able.{able, is_able, has_work}
-use Rattle.pc_choose.specs.Marks.{mark, mark_of, marks_of, marks_by, AreMarks}
-use Rattle.pc_choose.proofs.Places.{marks_set, marks_push}
-use Rattle.pc_choose.proofs.Staying.{mailed}
+use Rattle.pc_choose.specs.{Able.{able, is_able, has_work}, Marks.{mark, mark_of, marks_of, marks_by, AreMarks}}
+use Rattle.pc_choose.proofs.{Places.{marks_set, marks_push}, Staying.mailed}
 
 abbrev able_in : List Actor → ℕ → Bool
 able_in xs i = is_able (slice_get xs i)

@@ -1,18 +1,9 @@
 -- Who is picked for a turn.
-use Rattle.std.proofs.Common.{◌≡◌, ℕ, zero, suc, ◌+◌, ◌-◌, ◌*◌, ◌/◌, ◌<◌, ◌≤◌, Bool, true, false, cond, nat_lt, List, [], ◌∷◌, length, Option, Some, None, inl, inr, refl, sym, ap, subst, ◌∙◌, arith}
-use Rattle.std.proofs.Math.Nat.{eq-or-lt_of_le}
-use Rattle.std.proofs.lemmas.Bool.{and_parts, false≢true, ltb-true}
-use Rattle.std.proofs.lemmas.Nat.{mod_below}
-use Rattle.std.proofs.lemmas.Option.{none-some, same_Some}
-use Rattle.std.specs.Prelude.{filter, if◌then◌else◌, slice_get, ◌&&◌, ◌⊎◌}
-use Rattle.std.specs.List.{range_with_len}
-use Rattle.pc_semantics.specs.declared.actors.Actor.{Actor}
-use Rattle.pc_semantics.specs.Configurations.{Configuration}
+use Rattle.std.proofs.{Common.{◌≡◌, ℕ, zero, suc, ◌+◌, ◌-◌, ◌*◌, ◌/◌, ◌<◌, ◌≤◌, Bool, true, false, cond, nat_lt, List, [], ◌∷◌, length, Option, Some, None, inl, inr, refl, sym, ap, subst, ◌∙◌, arith}, Math.Nat.eq-or-lt_of_le, lemmas.Bool.{and_parts, false≢true, ltb-true}, lemmas.Nat.mod_below, lemmas.Option.{none-some, same_Some}}
+use Rattle.std.specs.{Prelude.{filter, if◌then◌else◌, slice_get, ◌&&◌, ◌⊎◌}, List.range_with_len}
+use Rattle.pc_semantics.specs.{declared.actors.Actor.Actor, Configurations.Configuration}
 use Rattle.pc_draws.specs.Draws.{state}
-use Rattle.pc_choose.specs.declared.point.Point.{Point}
-use Rattle.pc_choose.specs.declared.point.Picked.{Picked}
-use Rattle.pc_choose.specs.Able.{able, is_able, able_actors}
-use Rattle.pc_choose.specs.Choice.{drawn_actor, most_times, most_turns, new_turn, next_in_round, or_new_round, picked, picks, times, turn, turn_of}
+use Rattle.pc_choose.specs.{declared.point.Point.Point, declared.point.Picked.Picked, Able.{able, is_able, able_actors}, Choice.{drawn_actor, most_times, most_turns, new_turn, next_in_round, or_new_round, picked, picks, times, turn, turn_of}}
 
 -- ---- numbers of a range that pass a test
 

@@ -1,17 +1,10 @@
 -- Marks, and the places of able actors among them.
-use Rattle.std.proofs.Common.{◌≡◌, ℕ, zero, suc, ◌+◌, ◌-◌, ◌<◌, ◌≤◌, Bool, true, false, cond, nat_lt, List, [], ◌∷◌, ◌++◌, length, take, get_or, set, sum, map, Option, Some, None, refl, sym, ap, ◌∙◌, subst, arith, inl, inr}
+use Rattle.std.proofs.{Common.{◌≡◌, ℕ, zero, suc, ◌+◌, ◌-◌, ◌<◌, ◌≤◌, Bool, true, false, cond, nat_lt, List, [], ◌∷◌, ◌++◌, length, take, get_or, set, sum, map, Option, Some, None, refl, sym, ap, ◌∙◌, subst, arith, inl, inr}, Math.Nat.eq-or-lt_of_le, lemmas.Bool.{false≢true, ltb-false, ltb-true}, lemmas.List.{length-map, take_more, take_all}, lemmas.List.Sums.{sum_by-cons, sum_by-take-le}, lemmas.Option.{none-some, same_Some}}
 use Rattle.std.specs.Prelude.{slice_get, IfNone, IfSome}
-use Rattle.std.proofs.Math.Nat.{eq-or-lt_of_le}
-use Rattle.std.proofs.lemmas.Bool.{false≢true, ltb-false, ltb-true}
-use Rattle.std.proofs.lemmas.List.{length-map, take_more, take_all}
-use Rattle.std.proofs.lemmas.List.Sums.{sum_by-cons, sum_by-take-le}
-use Rattle.std.proofs.lemmas.Option.{none-some, same_Some}
-use Rattle.pc_semantics.specs.declared.actors.Actor.{Actor}
-use Rattle.pc_semantics.specs.Configurations.{Configuration}
+use Rattle.pc_semantics.specs.{declared.actors.Actor.Actor, Configurations.Configuration}
 use Rattle.pc_tally.specs.Sums.{FallsOn}
 use Rattle.pc_tally.proofs.Sums.{sum_grows, sum_all}
-use Rattle.pc_choose.specs.Able.{able, is_able, able_among, able_actors}
-use Rattle.pc_choose.specs.Marks.{mark, mark_of, marks_of, AreMarks}
+use Rattle.pc_choose.specs.{Able.{able, is_able, able_among, able_actors}, Marks.{mark, mark_of, marks_of, AreMarks}}
 
 abbrev same : ℕ → ℕ
 same x = x

@@ -1,22 +1,11 @@
 -- The state of a choice after some steps of a list.
-use Rattle.std.proofs.Common.{◌≡◌, ℕ, zero, suc, ◌+◌, ◌-◌, ◌<◌, ◌≤◌, List, [], ◌∷◌, ◌++◌, length, Option, Some, None, inl, inr, refl, sym, subst, arith, length-append}
-use Rattle.std.proofs.lemmas.List.{length-map, length-set}
+use Rattle.std.proofs.{Common.{◌≡◌, ℕ, zero, suc, ◌+◌, ◌-◌, ◌<◌, ◌≤◌, List, [], ◌∷◌, ◌++◌, length, Option, Some, None, inl, inr, refl, sym, subst, arith, length-append}, lemmas.List.{length-map, length-set}}
 use Rattle.std.specs.Prelude.{IsSomeAnd, ◌⊎◌}
 use Rattle.pc_core.specs.CoreData.{CoreData}
-use Rattle.pc_semantics.specs.declared.ahead.Ahead.{Ahead}
+use Rattle.pc_semantics.specs.{declared.ahead.Ahead.Ahead, declared.outcome.Outcome.Outcome, declared.outcome.Outcome.TheVariants.{Moved, Skipped, Lacks, TooLong}, Ahead.ahead_of, Configurations.{Configuration, main_create, start, start_of}, Step.{followed, run_from, step}}
 use Rattle.pc_semantics.specs.declared.ahead.Ahead.TheVariants as ahead
-use Rattle.pc_semantics.specs.declared.outcome.Outcome.{Outcome}
-use Rattle.pc_semantics.specs.declared.outcome.Outcome.TheVariants.{Moved, Skipped, Lacks, TooLong}
-use Rattle.pc_semantics.specs.Ahead.{ahead_of}
-use Rattle.pc_semantics.specs.Configurations.{Configuration, main_create, start, start_of}
-use Rattle.pc_semantics.specs.Step.{followed, run_from, step}
-use Rattle.pc_choose.specs.declared.point.Point.{Point}
-use Rattle.pc_choose.specs.Choice.{most_times, stepped, turn}
-use Rattle.pc_choose.specs.Lists.{AfterStep, Follows}
-use Rattle.pc_choose.specs.Marks.{mark_of, marks_by, marks_of}
-use Rattle.pc_choose.proofs.Listing.{never, never_within}
-use Rattle.pc_choose.proofs.Marking.{counts}
-use Rattle.pc_choose.proofs.Picking.{Begun, Turned, turned}
+use Rattle.pc_choose.specs.{declared.point.Point.Point, Choice.{most_times, stepped, turn}, Lists.{AfterStep, Follows}, Marks.{mark_of, marks_by, marks_of}}
+use Rattle.pc_choose.proofs.{Listing.{never, never_within}, Marking.counts, Picking.{Begun, Turned, turned}}
 
 -- ---- how many actors there are
 

@@ -1,12 +1,9 @@
 -- The parts of a choice.
-use Rattle.std.proofs.Common.{◌≡◌, ℕ, zero, suc, ◌+◌, ◌-◌, ◌*◌, ◌<◌, ◌≤◌, length, None, ap, ◌∙◌, arith}
+use Rattle.std.proofs.{Common.{◌≡◌, ℕ, zero, suc, ◌+◌, ◌-◌, ◌*◌, ◌<◌, ◌≤◌, length, None, ap, ◌∙◌, arith}, lemmas.Option.slice_get_past}
 use Rattle.std.specs.Prelude.{slice_get}
-use Rattle.std.proofs.lemmas.Option.{slice_get_past}
 use Rattle.pc_semantics.specs.Configurations.{Configuration}
 use Rattle.pc_draws.specs.Draws.{next, high, state}
-use Rattle.pc_choose.specs.declared.point.Point.{Point}
-use Rattle.pc_choose.specs.Able.{able_among, able_actors}
-use Rattle.pc_choose.specs.Choice.{next_in_round, or_new_round, picks, picked, times, most_times}
+use Rattle.pc_choose.specs.{declared.point.Point.Point, Able.{able_among, able_actors}, Choice.{next_in_round, or_new_round, picks, picked, times, most_times}}
 
 pub past_round : (p : Point) (c : Configuration) → p.round ≤ p.actor → next_in_round p c ≡ None
 past_round p c l =

@@ -1,20 +1,10 @@
 -- A list under way.
 use Rattle.std.proofs.Common.{◌≡◌, ◌≢◌, ℕ, suc, ◌+◌, ◌-◌, ◌<◌, ◌≤◌, List, [], ◌∷◌, ◌++◌, Option, Some, None, refl, sym, ap, subst, ◌∙◌, arith, append_assoc, append-nil}
-use Rattle.std.specs.Prelude.{IsSomeAnd}
-use Rattle.std.specs.FinMap.{len}
+use Rattle.std.specs.{Prelude.IsSomeAnd, FinMap.len}
 use Rattle.pc_core.specs.CoreData.{CoreData}
 use Rattle.pc_machine.proofs.Growing.{Changes, Grown, step_changes, few_at_start}
-use Rattle.pc_semantics.specs.declared.outcome.Lack.{Lack}
-use Rattle.pc_semantics.specs.declared.outcome.Outcome.{Outcome}
-use Rattle.pc_semantics.specs.declared.outcome.Outcome.TheVariants.{Moved, Skipped, Lacks, TooLong}
-use Rattle.pc_semantics.specs.Configurations.{Configuration, start}
-use Rattle.pc_semantics.specs.Step.{step}
-use Rattle.pc_semantics.specs.Text.{waiting}
-use Rattle.pc_choose.specs.declared.point.Point.{Point}
-use Rattle.pc_choose.specs.declared.step.Step.{Step}
-use Rattle.pc_choose.specs.Choice.{turn, stepped, at_first}
-use Rattle.pc_choose.specs.Choosers.{Advances}
-use Rattle.pc_choose.specs.Lists.{AfterStep, Follows, Chosen, most_steps}
+use Rattle.pc_semantics.specs.{declared.outcome.Lack.Lack, declared.outcome.Outcome.Outcome, declared.outcome.Outcome.TheVariants.{Moved, Skipped, Lacks, TooLong}, Configurations.{Configuration, start}, Step.step, Text.waiting}
+use Rattle.pc_choose.specs.{declared.point.Point.Point, declared.step.Step.Step, Choice.{turn, stepped, at_first}, Choosers.Advances, Lists.{AfterStep, Follows, Chosen, most_steps}}
 
 -- These steps were taken; what follows from here gives the whole list.
 pub record Underway (core : CoreData) (seed n : ℕ) (p : Point) (c : Configuration) (list : List ℕ) : Type 0 where

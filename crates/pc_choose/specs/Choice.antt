@@ -2,7 +2,7 @@
 use Rattle.std.specs.Prelude.{ℕ, zero, suc, ◌+◌, ◌-◌, ◌*◌, nat_lt, ◌&&◌, if◌then◌else◌, length, Option, Some, None, slice_get}
 use Rattle.pc_semantics.specs.Configurations.{Configuration}
 use Rattle.pc_draws.specs.Draws.{draw}
-use Rattle.pc_choose.specs.{declared.point.Point.Point, declared.point.Picked.Picked, Able.able, Able.able_among, Able.able_actors}
+use Rattle.pc_choose.specs.{declared.point.Point.Point, declared.point.Picked.Picked, Able.{able, able_among, able_actors}}
 
 -- the greatest number of turns of a list
 abbrev pub most_turns : ℕ

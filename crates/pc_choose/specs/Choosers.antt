@@ -1,10 +1,9 @@
 -- Choosers: the state of a choice.
-use Rattle.std.specs.Prelude.{◌≡◌, ℕ, ◌*◌, List, Option, Some, None, IfSome, IsSomeAnd, refl}
-use Rattle.std.specs.Coded.{Coded, code_by, coded×, coded_list, coded_ℕ}
+use Rattle.std.specs.{Prelude.{◌≡◌, ℕ, ◌*◌, List, Option, Some, None, IfSome, IsSomeAnd, refl}, Coded.{Coded, code_by, coded×, coded_list, coded_ℕ}}
 use Rattle.pc_core.specs.CoreData.{CoreData}
 use Rattle.pc_semantics.specs.{declared.ahead.Ahead.Ahead, declared.outcome.Outcome.Outcome, Ahead.ahead_of, Configurations.Configuration, Step.step}
 use Rattle.pc_draws.specs.Draws.{state}
-use Rattle.pc_choose.specs.{declared.point.Point.Point, declared.step.Onward.Onward, declared.step.Step.Step, Choice.turn, Choice.stepped, Marks.marks_of}
+use Rattle.pc_choose.specs.{declared.point.Point.Point, declared.step.Onward.Onward, declared.step.Step.Step, Choice.{turn, stepped}, Marks.marks_of}
 use Rattle.pc_choose.specs.contracts.point.Point as point
 
 -- The seed, the state of its draws, the point, and the marks of the able actors.

@@ -1,9 +1,8 @@
 -- What is proved of the lists of seeds.
-use Rattle.std.specs.Prelude.{◌≡◌, ◌≢◌, ℕ, ◌+◌, ◌*◌, ◌<◌, ◌≤◌, true, false, List, [], ◌∷◌, ◌++◌, length, ◌⊎◌}
-use Rattle.std.specs.List.{AllByRecursion}
+use Rattle.std.specs.{Prelude.{◌≡◌, ◌≢◌, ℕ, ◌+◌, ◌*◌, ◌<◌, ◌≤◌, true, false, List, [], ◌∷◌, ◌++◌, length, ◌⊎◌}, List.AllByRecursion}
 use Rattle.pc_core.specs.CoreData.{CoreData}
-use Rattle.pc_semantics.specs.{declared.outcome.Outcome.TheVariants.Moved, declared.outcome.Outcome.TheVariants.Skipped, Configurations.Configuration, Step.after, Step.step, Ahead.ahead_of, declared.ahead.Ahead.TheVariants.Send, declared.ahead.Ahead.TheVariants.Spawn, Text.steps_of}
-use Rattle.pc_choose.specs.{Able.able, Choice.most_times, Choice.most_turns, Lists.Chosen, Lists.most_steps}
+use Rattle.pc_semantics.specs.{declared.outcome.Outcome.TheVariants.{Moved, Skipped}, Configurations.Configuration, Step.{after, step}, Ahead.ahead_of, declared.ahead.Ahead.TheVariants.{Send, Spawn}, Text.steps_of}
+use Rattle.pc_choose.specs.{Able.able, Choice.{most_times, most_turns}, Lists.{Chosen, most_steps}}
 
 -- A step is skipped iff its actor is not able.
 pub record SkipsUnable : Type 0 where

@@ -1,9 +1,9 @@
 -- The list of steps of a seed.
 use Rattle.std.specs.Prelude.{◌≡◌, ℕ, zero, suc, List, [], ◌∷◌, None, IsSomeAnd}
 use Rattle.pc_core.specs.CoreData.{CoreData}
-use Rattle.pc_semantics.specs.{declared.outcome.Outcome.Outcome, declared.outcome.Outcome.TheVariants.Moved, declared.outcome.Outcome.TheVariants.Skipped, declared.outcome.Outcome.TheVariants.Lacks, declared.outcome.Outcome.TheVariants.TooLong, Configurations.Configuration, Configurations.start, Step.step}
+use Rattle.pc_semantics.specs.{declared.outcome.Outcome.Outcome, declared.outcome.Outcome.TheVariants.{Moved, Skipped, Lacks, TooLong}, Configurations.{Configuration, start}, Step.step}
 use Rattle.pc_sched.specs.Schedules.{turn_limit}
-use Rattle.pc_choose.specs.{declared.point.Point.Point, Choice.turn, Choice.stepped, Choice.at_first}
+use Rattle.pc_choose.specs.{declared.point.Point.Point, Choice.{turn, stepped, at_first}}
 
 -- the greatest number of steps of a list: as many as a schedule may have
 abbrev pub most_steps : ℕ

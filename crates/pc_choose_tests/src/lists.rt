@@ -1,7 +1,7 @@
 //! Lists of seeds.
 ghost use Rattle.std.specs.Prelude.{◌≡◌};
 
-use pc_caps::List;
+use pc_base::List;
 use pc_choose::choose;
 use pc_core::Core;
 use pc_machine::start;

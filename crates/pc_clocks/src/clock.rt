@@ -2,7 +2,7 @@
 ghost use Rattle.std.specs.Prelude.{◌≡◌, ◌+◌, ◌<◌, ◌≤◌, ◌^◌, ℕ, max, length, get_or, slice_set, OnOk};
 ghost use Rattle.pc_clocks.specs.Seats.{Advanced, number};
 
-use pc_caps::List;
+use pc_base::List;
 use std::alloc::AllocError;
 
 // Extends the clock to this length with zeros.

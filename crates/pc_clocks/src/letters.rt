@@ -1,7 +1,7 @@
 //! The clocks of the messages waiting for an actor.
 ghost use Rattle.std.specs.Prelude.{◌≡◌, ◌++◌, ◌∷◌, [], length, drop, slice_get, OnOk};
 
-use pc_caps::List;
+use pc_base::List;
 use std::alloc::{AllocError, Global};
 use std::collections::VecDeque;
 use std::marker::Model;

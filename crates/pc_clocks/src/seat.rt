@@ -4,7 +4,7 @@ ghost use Rattle.pc_clocks.specs.Seats.{Advanced, number};
 
 use crate::clock::advance;
 use crate::letters::Letters;
-use pc_caps::List;
+use pc_base::List;
 use std::alloc::{AllocError, Global};
 
 /// An actor's clock, and those of the messages waiting for it.

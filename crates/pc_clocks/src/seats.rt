@@ -3,7 +3,7 @@ ghost use Rattle.std.specs.Prelude.{◌≡◌, ◌+◌, ◌<◌, ◌≤◌, ◌^
 ghost use Rattle.pc_clocks.specs.Seats.{Advanced, ChangedAt, clock_of, number};
 
 use crate::seat::{Seat, act, empty_seat, new_seat, receive};
-use pc_caps::List;
+use pc_base::List;
 use std::alloc::{AllocError, Global};
 use std::marker::Model;
 

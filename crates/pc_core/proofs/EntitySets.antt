@@ -1,9 +1,7 @@
 -- Sets of entities as masks.
 use Rattle.std.specs.Prelude.{◌≡◌, ◌⊎◌, ◌↔◌, ℕ, zero, suc, ◌+◌, ◌<◌, ◌≤◌, List, [], ◌∷◌, ◌++◌, length, refl}
 use Rattle.std.proofs.Common.{inl, inr, sym, subst, arith}
-use Rattle.pc_masks.specs.Masks.{IsInMask, empty}
-use Rattle.pc_masks.specs.MaskLaws.{first_bits}
-use Rattle.pc_masks.specs.declared.mask.Mask.{Mask}
+use Rattle.pc_masks.specs.{Masks.{IsInMask, empty}, MaskLaws.first_bits, declared.mask.Mask.Mask}
 use Rattle.pc_core.specs.EntitySets.{AreMet, mask_at}
 
 -- The empty mask has no bit.

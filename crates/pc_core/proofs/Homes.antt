@@ -1,13 +1,8 @@
 -- The method to which a node belongs.
 use Rattle.std.specs.Prelude.{◌≡◌, ℕ, ◌+◌, ◌-◌, ◌<◌, ◌≤◌, length, Option, Some, None, slice_get, refl}
 use Rattle.std.proofs.Common.{ap, sym, subst, arith}
-use Rattle.pc_lists.proofs.Gets.{map_get, range_get}
-use Rattle.pc_lists.proofs.Ranges.{run_around}
-use Rattle.pc_core.specs.declared.declarations.Method.{Method}
-use Rattle.pc_core.specs.declared.nodes.Node.{Node}
-use Rattle.pc_core.specs.CoreData.{CoreData, node_end}
-use Rattle.pc_core.specs.Formed.{Formed}
-use Rattle.pc_core.specs.Methods.{BodyFits}
+use Rattle.pc_base.proofs.{Gets.{map_get, range_get}, Ranges.run_around}
+use Rattle.pc_core.specs.{declared.declarations.Method.Method, declared.nodes.Node.Node, CoreData.{CoreData, node_end}, Formed.Formed, Methods.BodyFits}
 
 -- The method with a body to which node n belongs.
 pub record Home (core : CoreData) (n : ℕ) : Type 0 where

@@ -1,21 +1,9 @@
 -- A method's place among the keys of all methods is the one found among the methods of its entity.
-use Rattle.std.specs.Prelude.{◌≡◌, ℕ, ◌+◌, ◌-◌, ◌<◌, ◌≤◌, Bool, true, false, cond, not, ◌&&◌, suc, List, [], ◌∷◌, length, map, take, nat_eq, nat_lt, Option, Some, None, slice_get, position, refl}
-use Rattle.std.specs.List.{list_any, position_or_len}
-use Rattle.std.proofs.Common.{inl, inr, ap, sym, subst, ◌∙◌, arith}
-use Rattle.std.proofs.lemmas.Bool.{and_parts, or_cases, eq-eqb, eqb-true, ltb-true, ltb-false}
-use Rattle.std.proofs.lemmas.List.Sums.{passes_at_first, fails_before_first}
-use Rattle.std.proofs.lemmas.Option.{get_or_from_slice_get, same_Some, none-some}
-use Rattle.pc_core.specs.declared.declarations.EntityDef.{EntityDef}
-use Rattle.pc_core.specs.declared.declarations.Method.{Method}
-use Rattle.pc_core.specs.CoreData.{CoreData, own_methods, method_named, IsMethod}
-use Rattle.pc_core.specs.Parts.{field_name, method_name}
-use Rattle.pc_core.specs.Formed.{Formed}
-use Rattle.pc_core.specs.Members.{method_among, method_found, method_missed}
-use Rattle.pc_core.specs.MethodKeys.{method_key, is_key}
-use Rattle.pc_lists.specs.Lists.{Differ}
-use Rattle.pc_lists.proofs.Bools.{false_true, no_both}
-use Rattle.pc_lists.proofs.Gets.{get_append, get_below, get_map, get_take, get_within, map_get, range_get}
-use Rattle.pc_lists.proofs.Options.{kept}
+use Rattle.std.specs.{Prelude.{◌≡◌, ℕ, ◌+◌, ◌-◌, ◌<◌, ◌≤◌, Bool, true, false, cond, not, ◌&&◌, suc, List, [], ◌∷◌, length, map, take, nat_eq, nat_lt, Option, Some, None, slice_get, position, refl}, List.{list_any, position_or_len}}
+use Rattle.std.proofs.{Common.{inl, inr, ap, sym, subst, ◌∙◌, arith}, lemmas.Bool.{and_parts, or_cases, eq-eqb, eqb-true, ltb-true, ltb-false}, lemmas.List.Sums.{passes_at_first, fails_before_first}, lemmas.Option.{get_or_from_slice_get, same_Some, none-some}}
+use Rattle.pc_core.specs.{declared.declarations.EntityDef.EntityDef, declared.declarations.Method.Method, CoreData.{CoreData, own_methods, method_named, IsMethod}, Parts.{field_name, method_name}, Formed.Formed, Members.{method_among, method_found, method_missed}, MethodKeys.{method_key, is_key}}
+use Rattle.pc_base.specs.Lists.{Differ}
+use Rattle.pc_base.proofs.{Bools.{false_true, no_both}, Gets.{get_append, get_below, get_map, get_take, get_within, map_get, range_get}, Options.kept}
 
 -- ---- the first place that passes a test
 

@@ -1,7 +1,7 @@
 -- A core as plain lists, and what is found in them.
 use Rattle.std.specs.Prelude.{ℕ, List, ◌≡◌, ◌+◌, Option, Some, None, slice_get, slice_range}
 use Rattle.pc_core.specs.{declared.declarations.EntityDef.EntityDef, declared.declarations.Method.Method, declared.nodes.Slot.Slot, declared.nodes.Node.Node, declared.declarations.FieldInfo.FieldInfo}
-use Rattle.pc_lists.specs.Lists.{◌>>=◌, place_of}
+use Rattle.pc_base.specs.Lists.{◌>>=◌, place_of}
 
 pub record CoreData : Type 0 where
   pub entities : List EntityDef

@@ -2,10 +2,10 @@
 -- entities are the same, or the first is declared by `is` to be the second; and when an entity has what a trait or an
 -- interface declares.
 use Rattle.std.specs.Prelude.{◌≡◌, ℕ, true, List, [], ◌∷◌, Some, None, slice_get, codes, ◌⊎◌, length}
-use Rattle.pc_caps.specs.{declared.capability.Cap.Cap, declared.span.Span.Span, Tables.IsBelow, Tables.unalias}
-use Rattle.pc_tree.specs.{declared.kinds.EntityKind.EntityKind, Kinds.none_entity, Kinds.u64_entity, Kinds.bool_entity, Kinds.string_entity, Kinds.env_entity, Kinds.out_stream_entity, declared.kinds.MethodWord.MethodWord, Kinds.at_kind}
-use Rattle.pc_core.specs.{declared.declarations.EntityDef.EntityDef, declared.declarations.FieldInfo.FieldInfo, declared.declarations.Method.Method, CoreData.CoreData, declared.declarations.MethodKind.MethodKind, declared.declarations.ParamInfo.ParamInfo, declared.nodes.Slot.Slot, CoreData.own_methods, CoreData.IsMethod}
-use Rattle.pc_lists.specs.Lists.{Has, Each}
+use Rattle.pc_base.specs.{declared.span.Span.Span, Lists.{Has, Each}}
+use Rattle.pc_caps.specs.{declared.capability.Cap.Cap, Tables.{IsBelow, unalias}}
+use Rattle.pc_tree.specs.{declared.kinds.EntityKind.EntityKind, Kinds.{none_entity, u64_entity, bool_entity, string_entity, env_entity, out_stream_entity, at_kind}, declared.kinds.MethodWord.MethodWord}
+use Rattle.pc_core.specs.{declared.declarations.EntityDef.EntityDef, declared.declarations.FieldInfo.FieldInfo, declared.declarations.Method.Method, CoreData.{CoreData, own_methods, IsMethod}, declared.declarations.MethodKind.MethodKind, declared.declarations.ParamInfo.ParamInfo, declared.nodes.Slot.Slot}
 use Rattle.pc_caps.specs.declared.capability.Cap.TheVariants as cap
 use Rattle.pc_caps.specs.declared.capability.Form.TheVariants as form
 use Rattle.pc_tree.specs.declared.kinds.EntityKind.TheVariants as kind

@@ -1,9 +1,8 @@
 -- When an entity fits its core.
 use Rattle.std.specs.Prelude.{◌≡◌, ◌⊎◌, ◌↔◌, ℕ, ◌<◌, ◌≤◌, true, [], ◌∷◌, ◌++◌, map, length, Some, slice_get, codes}
-use Rattle.pc_caps.specs.Limits.{field_limit}
+use Rattle.pc_base.specs.{Limits.field_limit, Lists.{Each, Has, Differ, Ascends}}
 use Rattle.pc_tree.specs.Kinds.{may_have_fields, env_entity}
-use Rattle.pc_core.specs.{declared.declarations.EntityDef.EntityDef, declared.declarations.Method.Method, declared.declarations.ParamInfo.ParamInfo, CoreData.CoreData, CoreData.own_methods, Parts.field_name, Parts.method_name, Further.IsAbstract, Entities.Leads}
-use Rattle.pc_lists.specs.Lists.{Each, Has, Differ, Ascends}
+use Rattle.pc_core.specs.{declared.declarations.EntityDef.EntityDef, declared.declarations.Method.Method, declared.declarations.ParamInfo.ParamInfo, CoreData.{CoreData, own_methods}, Parts.{field_name, method_name}, Further.IsAbstract, Entities.Leads}
 use Rattle.pc_caps.specs.declared.capability.Cap.TheVariants as cap
 use Rattle.pc_tree.specs.declared.kinds.EntityKind.TheVariants as kind
 use Rattle.pc_core.specs.declared.declarations.MethodKind.TheVariants as method

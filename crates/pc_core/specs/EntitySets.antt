@@ -1,6 +1,6 @@
 -- Sets of entities as masks: entity e is bit e % 64 of mask e / 64.
 use Rattle.std.specs.Prelude.{ℕ, ◌*◌, ◌/◌, ◌%◌, ◌<◌, ◌≤◌, ◌↔◌, List, length, slice_get, unwrap_or}
-use Rattle.pc_masks.specs.{Masks.IsInMask, Masks.empty, declared.mask.Mask.Mask}
+use Rattle.pc_masks.specs.{Masks.{IsInMask, empty}, declared.mask.Mask.Mask}
 use Rattle.pc_core.specs.CoreData.{CoreData}
 
 -- for how many entities a mask has a bit

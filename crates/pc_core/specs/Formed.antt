@@ -1,7 +1,7 @@
 -- When the lists of a core fit together.
 use Rattle.std.specs.Prelude.{◌-◌, ◌<◌, ◌^◌, map, length}
-use Rattle.pc_core.specs.{CoreData.CoreData, CoreData.node_end, Entities.HasBuiltIn, EntityFits.HasMain, EntityFits.EntityFits, Methods.MethodFits, Nodes.NodeFits}
-use Rattle.pc_lists.specs.Lists.{Follow, Each, Differ}
+use Rattle.pc_core.specs.{CoreData.{CoreData, node_end}, Entities.HasBuiltIn, EntityFits.{HasMain, EntityFits}, Methods.MethodFits, Nodes.NodeFits}
+use Rattle.pc_base.specs.Lists.{Follow, Each, Differ}
 
 pub record Formed (core : CoreData) : Type 0 where
   -- each count fits in 32 bits

@@ -1,6 +1,6 @@
 -- Further words on a core, for contracts below the top.
 use Rattle.std.specs.Prelude.{ℕ, List, ◌≡◌, true, Some, slice_get, slice_range}
-use Rattle.pc_core.specs.{declared.declarations.EntityDef.EntityDef, declared.declarations.Method.Method, declared.nodes.Node.Node, CoreData.CoreData, CoreData.node_end, declared.declarations.MethodKind.MethodKind}
+use Rattle.pc_core.specs.{declared.declarations.EntityDef.EntityDef, declared.declarations.Method.Method, declared.nodes.Node.Node, CoreData.{CoreData, node_end}, declared.declarations.MethodKind.MethodKind}
 use Rattle.pc_tree.specs.Kinds.{is_abstract}
 
 -- An entity is a trait or an interface.

@@ -1,12 +1,9 @@
 -- Extending a core at its ends by methods, slots and nodes, and nodes in post-order one by one.
-use Rattle.std.proofs.Common.{inl, inr, ap, sym, subst, ◌∙◌, arith}
-use Rattle.std.proofs.lemmas.Option.{same_Some, none-some}
-use Rattle.pc_lists.proofs.Gets.{get_below, get_front, get_append, append_get}
-use Rattle.pc_lists.proofs.Elements.{below_next}
-use Rattle.pc_lists.proofs.Cuts.{range_front}
+use Rattle.std.proofs.{Common.{inl, inr, ap, sym, subst, ◌∙◌, arith}, lemmas.Option.{same_Some, none-some}}
+use Rattle.pc_base.proofs.{Gets.{get_below, get_front, get_append, append_get}, Elements.below_next, Cuts.range_front}
 use Rattle.std.specs.Prelude.{◌≡◌, ◌≢◌, ℕ, zero, suc, ◌+◌, ◌-◌, ◌<◌, ◌≤◌, List, [], ◌∷◌, ◌++◌, length, Some, slice_get}
-use Rattle.pc_core.specs.{declared.declarations.Method.Method, declared.nodes.Slot.Slot, declared.nodes.Node.Node, declared.nodes.NodeKind.NodeKind, CoreData.CoreData, CoreData.node_end, Further.own_nodes, Methods.LocalFits, Methods.SlotsFit, Methods.PostOrder, Methods.BodyFits, Methods.MethodFits, Nodes.NodeFits, Nodes.NamesFit, Nodes.NamesSlot}
-use Rattle.pc_lists.specs.Lists.{Each}
+use Rattle.pc_core.specs.{declared.declarations.Method.Method, declared.nodes.Slot.Slot, declared.nodes.Node.Node, declared.nodes.NodeKind.NodeKind, CoreData.{CoreData, node_end}, Further.own_nodes, Methods.{LocalFits, SlotsFit, PostOrder, BodyFits, MethodFits}, Nodes.{NodeFits, NamesFit, NamesSlot}}
+use Rattle.pc_base.specs.Lists.{Each}
 use Rattle.pc_core.specs.declared.nodes.NodeKind.TheVariants as node
 
 -- ---- post-order

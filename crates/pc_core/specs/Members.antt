@@ -1,13 +1,9 @@
 -- What follows, in a core that fits together, for the fields and methods of its entities.
-use Rattle.std.proofs.Common.{ap, sym, subst, ◌∙◌, arith}
-use Rattle.std.proofs.lemmas.List.{length-drop, length-take-le}
-use Rattle.pc_lists.proofs.Gets.{get_below, get_map, map_get, get_range, range_get}
-use Rattle.pc_lists.proofs.Lookup.{place_found, place_missed}
-use Rattle.pc_lists.proofs.Ranges.{run_within, run_around}
-use Rattle.pc_lists.proofs.Options.{bind_some}
+use Rattle.std.proofs.{Common.{ap, sym, subst, ◌∙◌, arith}, lemmas.List.{length-drop, length-take-le}}
+use Rattle.pc_base.proofs.{Gets.{get_below, get_map, map_get, get_range, range_get}, Lookup.{place_found, place_missed}, Ranges.{run_within, run_around}, Options.bind_some}
 use Rattle.std.specs.Prelude.{◌≡◌, ℕ, ◌+◌, ◌-◌, ◌<◌, ◌≤◌, ◌^◌, length, drop, MatchOption, Option, Some, None, slice_get}
-use Rattle.pc_core.specs.{declared.declarations.EntityDef.EntityDef, declared.declarations.Method.Method, CoreData.CoreData, CoreData.own_methods, Parts.field_name, Parts.method_name, CoreData.field_named, CoreData.method_named, CoreData.IsMethod, Parts.IsField, Formed.Formed}
-use Rattle.pc_lists.specs.Lists.{◌>>=◌, place_of}
+use Rattle.pc_core.specs.{declared.declarations.EntityDef.EntityDef, declared.declarations.Method.Method, CoreData.{CoreData, own_methods, field_named, method_named, IsMethod}, Parts.{field_name, method_name, IsField}, Formed.Formed}
+use Rattle.pc_base.specs.Lists.{◌>>=◌, place_of}
 
 -- An entity's methods are within the list.
 pub methods_within : (core : CoreData) (e : ℕ) (x : EntityDef) → Formed core → slice_get core.entities e ≡ Some x → x.first_method + x.methods ≤ length core.methods

@@ -1,9 +1,9 @@
 -- When a method fits its core.
 use Rattle.std.specs.Prelude.{◌≡◌, ◌⊎◌, ℕ, ◌+◌, ◌<◌, ◌≤◌, Bool, true, false, List, [], ◌∷◌, ◌++◌, map, length, Some, IsSome, slice_get}
-use Rattle.pc_caps.specs.{Tables.unalias, declared.capability.Cap.Cap, Limits.slot_limit}
-use Rattle.pc_tree.specs.{declared.kinds.EntityKind.EntityKind, declared.kinds.MethodWord.MethodWord, Kinds.is_abstract, Kinds.may_stand, Kinds.none_entity}
-use Rattle.pc_core.specs.{declared.declarations.EntityDef.EntityDef, declared.declarations.Method.Method, declared.declarations.MethodKind.MethodKind, declared.nodes.Slot.Slot, declared.nodes.SlotKind.SlotKind, declared.nodes.Node.Node, declared.nodes.NodeKind.NodeKind, CoreData.CoreData, CoreData.own_slots, Further.own_nodes, Entities.word_kind, Entities.this_slot, Entities.param_slot}
-use Rattle.pc_lists.specs.Lists.{Each, Has}
+use Rattle.pc_base.specs.{Limits.slot_limit, Lists.{Each, Has}}
+use Rattle.pc_caps.specs.{Tables.unalias, declared.capability.Cap.Cap}
+use Rattle.pc_tree.specs.{declared.kinds.EntityKind.EntityKind, declared.kinds.MethodWord.MethodWord, Kinds.{is_abstract, may_stand, none_entity}}
+use Rattle.pc_core.specs.{declared.declarations.EntityDef.EntityDef, declared.declarations.Method.Method, declared.declarations.MethodKind.MethodKind, declared.nodes.Slot.Slot, declared.nodes.SlotKind.SlotKind, declared.nodes.Node.Node, declared.nodes.NodeKind.NodeKind, CoreData.{CoreData, own_slots}, Further.own_nodes, Entities.{word_kind, this_slot, param_slot}}
 use Rattle.pc_caps.specs.declared.capability.Cap.TheVariants as cap
 use Rattle.pc_caps.specs.declared.capability.Form.TheVariants as form
 use Rattle.pc_core.specs.declared.declarations.MethodKind.TheVariants as method

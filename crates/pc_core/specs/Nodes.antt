@@ -1,8 +1,8 @@
 -- When a node fits its core.
 use Rattle.std.specs.Prelude.{◌≡◌, ◌⊎◌, ℕ, ◌+◌, ◌<◌, ◌≤◌, Bool, true, false, length, Some, slice_get}
-use Rattle.pc_tree.specs.{declared.kinds.Op.Op, Kinds.none_entity, Kinds.first_own}
+use Rattle.pc_tree.specs.{declared.kinds.Op.Op, Kinds.{none_entity, first_own}}
 use Rattle.pc_core.specs.{declared.declarations.EntityDef.EntityDef, declared.declarations.Method.Method, declared.nodes.Slot.Slot, declared.nodes.Node.Node, declared.nodes.NodeKind.NodeKind, CoreData.CoreData, Methods.is_local, Further.NamesMethod}
-use Rattle.pc_lists.specs.Lists.{Each}
+use Rattle.pc_base.specs.Lists.{Each}
 use Rattle.pc_tree.specs.declared.kinds.EntityKind.TheVariants as kind
 use Rattle.pc_tree.specs.declared.kinds.Op.TheVariants as op
 use Rattle.pc_core.specs.declared.declarations.MethodKind.TheVariants as method

@@ -2,7 +2,7 @@
 ghost use Rattle.std.specs.Prelude.{◌≡◌, ◌∷◌, [], length, IfOk, IfSome};
 ghost use Rattle.pc_core.specs.Children.{numbers_of};
 
-use pc_caps::List;
+use pc_base::List;
 use std::alloc::{AllocError, Global};
 use std::marker::Model;
 use std::rc::Rc;

@@ -6,7 +6,7 @@ ghost use Rattle.pc_core.specs.Further.{IsAbstract};
 
 use crate::cores::Core;
 use crate::entity_set::EntitySet;
-use pc_caps::List;
+use pc_base::List;
 
 impl Core {
     /// Keeps a table of what conforms to what, for later calls of `known_to_conform`: at the number of each trait and

@@ -7,7 +7,7 @@ use crate::declarations::{EntityDef, Method};
 use crate::entity_set::EntitySet;
 use crate::index::MethodIndex;
 use crate::nodes::{Node, Slot};
-use pc_caps::List;
+use pc_base::List;
 use std::alloc::{AllocError, Global};
 use std::marker::Model;
 

@@ -1,6 +1,7 @@
 //! The declarations of a program: its entities with their fields, and the methods.
 
-use pc_caps::{Cap, Form, List, Span};
+use pc_base::{List, Span};
+use pc_caps::{Cap, Form};
 use pc_tree::EntityKind;
 
 /// An entity: a class, an actor, a primitive, a trait or an interface.

@@ -2,7 +2,7 @@
 ghost use Rattle.std.specs.Prelude.{◌≡◌, ◌⊎◌, ◌↔◌, ℕ, ◌+◌, ◌/◌, ◌<◌, IfOk, IsTrue, length, replicate};
 ghost use Rattle.pc_core.specs.EntitySets as spec;
 
-use pc_caps::List;
+use pc_base::List;
 use pc_masks::Mask;
 use std::alloc::{AllocError, Global};
 use std::marker::Model;

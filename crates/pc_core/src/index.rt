@@ -1,6 +1,6 @@
 //! An index of the methods by their entities and names.
 ghost use Rattle.std.specs.Prelude.{◌≡◌, ◌<◌, ◌^◌, IfOk, MatchOption, length, map, position};
-ghost use Rattle.pc_lists.specs.Lists.{Differ};
+ghost use Rattle.pc_base.specs.Lists.{Differ};
 ghost use Rattle.pc_core.specs.MethodKeys.{method_key, is_key};
 
 use crate::declarations::Method;

@@ -1,9 +1,9 @@
 //! Fields and methods by their names.
 ghost use Rattle.pc_core.specs.Parts as parts;
 ghost use Rattle.std.specs.Prelude.{◌≡◌, ℕ, ◌+◌, ◌<◌, ◌≤◌, ◌^◌, length, MatchOption, slice_range};
-ghost use Rattle.pc_caps.specs.Limits.{field_limit};
+ghost use Rattle.pc_base.specs.Limits.{field_limit};
 ghost use Rattle.pc_core.specs.CoreData as spec;
-ghost use Rattle.pc_lists.specs.Lists.{place_of};
+ghost use Rattle.pc_base.specs.Lists.{place_of};
 
 use crate::cores::Core;
 use crate::declarations::{FieldInfo, Method};

@@ -1,7 +1,8 @@
 //! The contents of methods: slots and nodes.
 
 use crate::children::Children;
-use pc_caps::{Cap, SharedList, Span};
+use pc_base::{SharedList, Span};
+use pc_caps::Cap;
 use pc_tree::Op;
 
 /// The kind of a slot.

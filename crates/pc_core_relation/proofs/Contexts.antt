@@ -1,40 +1,22 @@
 -- What a body knows of the core computed from a file is what it knows of the file.
-use Rattle.std.proofs.Common.{◌≡◌, ℕ, suc, ◌+◌, ◌≤◌, List, [], ◌∷◌, ◌++◌, length, map, Some, Bool, true, refl, sym, ap, ◌∙◌, subst, arith, if◌then◌else◌}
+use Rattle.std.proofs.{Common.{◌≡◌, ℕ, suc, ◌+◌, ◌≤◌, List, [], ◌∷◌, ◌++◌, length, map, Some, Bool, true, refl, sym, ap, ◌∙◌, subst, arith, if◌then◌else◌}, lemmas.Option.same_Some}
 use Rattle.std.specs.Prelude.{slice_get, slice_range, codes}
-use Rattle.std.proofs.lemmas.Option.{same_Some}
 use Rattle.pc_caps.specs.declared.capability.Cap.{Cap}
 use Rattle.pc_caps.specs.declared.capability.Cap.TheVariants as cap
-use Rattle.pc_lists.specs.Lists.{Has, Text}
-use Rattle.pc_lists.proofs.Gets.{get_map, get_range}
-use Rattle.pc_lists.proofs.Ranges.{run_within}
-use Rattle.pc_lists.proofs.Elements.{has_behind}
-use Rattle.pc_tree.specs.declared.kinds.EntityKind.{EntityKind}
+use Rattle.pc_base.specs.Lists.{Has, Text}
+use Rattle.pc_base.proofs.{Gets.{get_map, get_range}, Ranges.run_within, Elements.has_behind}
+use Rattle.pc_tree.specs.{declared.kinds.EntityKind.EntityKind, declared.kinds.MethodWord.MethodWord, Kinds.first_own}
 use Rattle.pc_tree.specs.declared.kinds.EntityKind.TheVariants as kind
-use Rattle.pc_tree.specs.declared.kinds.MethodWord.{MethodWord}
 use Rattle.pc_tree.specs.declared.kinds.MethodWord.TheVariants as word
 use Rattle.pc_tree.specs.Tree as t
-use Rattle.pc_core.specs.declared.declarations.Method.{Method}
-use Rattle.pc_core.specs.CoreData.{CoreData}
-use Rattle.pc_core.specs.Entities.{constructor_kind, word_kind}
-use Rattle.pc_members.specs.Members.{is_new, field_texts, method_texts, built_in_names, entity_names, Member, written, added, member_text}
-use Rattle.pc_members.specs.Parts.{or_nil}
-use Rattle.pc_tree.specs.Kinds.{first_own}
-use Rattle.pc_members.specs.MemberLists.{is_constructor, members}
+use Rattle.pc_core.specs.{declared.declarations.Method.Method, CoreData.CoreData, Entities.{constructor_kind, word_kind}}
+use Rattle.pc_members.specs.{Members.{is_new, field_texts, method_texts, built_in_names, entity_names, Member, written, added, member_text}, Parts.or_nil, MemberLists.{is_constructor, members}}
 use Rattle.pc_body_spec.specs.Bodies.{Context, KnownEntity, Constructor}
 use Rattle.pc_file_spec.specs.Cores.{Owned, owned, constructors_from, known_from, known_value, known_of, kind_of, context_of, placed_of, Parts, built_in_parts, core_with, core_entity, entities_from}
 use Rattle.pc_file_spec.specs.Cores as known
-use Rattle.pc_file_spec.proofs.Tables.{member_there, language_kept, text_found}
-use Rattle.pc_file_spec.proofs.Collects.{Collects}
-use Rattle.pc_file_spec.proofs.Origins.{Sort, sort_of}
-use Rattle.pc_file_spec.proofs.Owners.{starts, entity_at, own_member, methods_run, members_follow}
-use Rattle.pc_file_spec.proofs.Parts.{At, AllAt}
-use Rattle.pc_file_spec.proofs.Formation.{names_given}
-use Rattle.pc_file_spec.proofs.Settings.{all_members, method_at, at_get}
-use Rattle.pc_core_relation.specs.Files.{Match, makes, constructors_among, seen_entity}
-use Rattle.pc_core_relation.specs.Parts.{text_at, seen_entities}
-use Rattle.pc_core_relation.proofs.Lists.{match_rest, range_count}
-use Rattle.pc_core_relation.proofs.Mirror.{owned_context}
-use Rattle.pc_core_relation.proofs.Types.{entity_name}
+use Rattle.pc_file_spec.proofs.{Tables.{member_there, language_kept, text_found}, Collects.Collects, Origins.{Sort, sort_of}, Owners.{starts, entity_at, own_member, methods_run, members_follow}, Parts.{At, AllAt}, Formation.names_given, Settings.{all_members, method_at, at_get}}
+use Rattle.pc_core_relation.specs.{Files.{Match, makes, constructors_among, seen_entity}, Parts.{text_at, seen_entities}}
+use Rattle.pc_core_relation.proofs.{Lists.{match_rest, range_count}, Mirror.owned_context, Types.entity_name}
 
 -- ---- constructors
 

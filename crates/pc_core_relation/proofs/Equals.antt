@@ -1,32 +1,18 @@
 -- What represents a part of a file is what is computed from it.
-use Rattle.std.proofs.Common.{◌≡◌, ℕ, List, [], map, Option, Some, None, Bool, refl, sym, ap, ap₂, ◌∙◌, subst}
+use Rattle.std.proofs.{Common.{◌≡◌, ℕ, List, [], map, Option, Some, None, Bool, refl, sym, ap, ap₂, ◌∙◌, subst}, lemmas.Option.none-some}
 use Rattle.std.specs.Prelude.{slice_get}
-use Rattle.std.proofs.lemmas.Option.{none-some}
-use Rattle.pc_caps.specs.declared.capability.Cap.{Cap}
-use Rattle.pc_caps.specs.declared.capability.Form.{Form}
-use Rattle.pc_caps.specs.declared.span.Span.{Span}
-use Rattle.pc_lists.specs.Lists.{Differ, Text}
-use Rattle.pc_tree.specs.declared.kinds.MethodWord.{MethodWord}
+use Rattle.pc_caps.specs.{declared.capability.Cap.Cap, declared.capability.Form.Form}
+use Rattle.pc_base.specs.{declared.span.Span.Span, Lists.{Differ, Text}}
+use Rattle.pc_tree.specs.{declared.kinds.MethodWord.MethodWord, declared.written_names.TypeRef.TypeRef, declared.file.ParamDef.ParamDef}
 use Rattle.pc_tree.specs.declared.kinds.MethodWord.TheVariants as word
-use Rattle.pc_tree.specs.declared.written_names.TypeRef.{TypeRef}
-use Rattle.pc_tree.specs.declared.file.ParamDef.{ParamDef}
 use Rattle.pc_tree.specs.Tree as t
-use Rattle.pc_core.specs.declared.declarations.FieldInfo.{FieldInfo}
-use Rattle.pc_core.specs.declared.declarations.ParamInfo.{ParamInfo}
-use Rattle.pc_core.specs.declared.nodes.Slot.{Slot}
-use Rattle.pc_core.specs.declared.nodes.SlotKind.{SlotKind}
-use Rattle.pc_core.specs.CoreData.{CoreData}
+use Rattle.pc_core.specs.{declared.declarations.FieldInfo.FieldInfo, declared.declarations.ParamInfo.ParamInfo, declared.nodes.Slot.Slot, declared.nodes.SlotKind.SlotKind, CoreData.CoreData}
 use Rattle.pc_members.specs.Members.{Member, written, added}
-use Rattle.pc_body_spec.specs.Bodies.{Context, KnownEntity, text_from}
-use Rattle.pc_body_spec.specs.Slots.{Local}
-use Rattle.pc_body_spec.specs.Fold.{local_slot, type_of_name, written_of}
+use Rattle.pc_body_spec.specs.{Bodies.{Context, KnownEntity, text_from}, Slots.Local, Fold.{local_slot, type_of_name, written_of}}
 use Rattle.pc_file_spec.specs.Cores.{Owned, or_value, type_in, param_of, params_of, result_form, written_result, word_result, result_of, core_field}
 use Rattle.pc_file_spec.proofs.Tables.{text_found}
-use Rattle.pc_core_relation.specs.Files.{Match, IsType, IsWritten, ParamStands, LocalStands, FieldStands}
-use Rattle.pc_core_relation.specs.Parts.{seen_entities}
-use Rattle.pc_core_relation.proofs.Lists.{match_one}
-use Rattle.pc_core_relation.proofs.Mirror.{params_in, AnswerIs, WordResultIs, ResultIs}
-use Rattle.pc_core_relation.proofs.Types.{entity_name, type_is, is_type}
+use Rattle.pc_core_relation.specs.{Files.{Match, IsType, IsWritten, ParamStands, LocalStands, FieldStands}, Parts.seen_entities}
+use Rattle.pc_core_relation.proofs.{Lists.match_one, Mirror.{params_in, AnswerIs, WordResultIs, ResultIs}, Types.{entity_name, type_is, is_type}}
 
 -- A text of the list has only one number.
 pub text_one : (names : List Text) (x : Text) (n : ℕ) → Differ names → slice_get names n ≡ Some x → text_from 0 names x ≡ n

@@ -1,48 +1,19 @@
 -- The core computed from a file is its core.
-use Rattle.std.proofs.Common.{◌≡◌, ℕ, zero, suc, ◌+◌, ◌<◌, ◌≤◌, ◌^◌, List, [], length, map, Some, refl, sym, ap, ◌∙◌, subst, arith, inl, inr}
-use Rattle.std.specs.Prelude.{slice_get, position, codes}
-use Rattle.std.specs.Str.{bytes_eq}
-use Rattle.std.proofs.lemmas.Option.{same_Some, none-some}
-use Rattle.std.proofs.lemmas.List.{length-map}
-use Rattle.pc_caps.specs.Limits.{method_limit}
-use Rattle.pc_lists.specs.Lists.{Has, Follow}
-use Rattle.pc_lists.proofs.Gets.{map_get, get_map, get_append, get_below, get_within}
-use Rattle.pc_lists.proofs.Elements.{ascends_none, has_front}
-use Rattle.pc_tree.specs.declared.written_names.Name.{Name}
+use Rattle.std.proofs.{Common.{◌≡◌, ℕ, zero, suc, ◌+◌, ◌<◌, ◌≤◌, ◌^◌, List, [], length, map, Some, refl, sym, ap, ◌∙◌, subst, arith, inl, inr}, lemmas.Option.{same_Some, none-some}, lemmas.List.length-map}
+use Rattle.std.specs.{Prelude.{slice_get, position, codes}, Str.bytes_eq}
+use Rattle.pc_base.specs.{Limits.method_limit, Lists.{Has, Follow}}
+use Rattle.pc_base.proofs.{Gets.{map_get, get_map, get_append, get_below, get_within}, Elements.{ascends_none, has_front}}
+use Rattle.pc_tree.specs.{declared.written_names.Name.Name, Kinds.first_own}
 use Rattle.pc_tree.specs.Tree as t
-use Rattle.pc_core.specs.declared.declarations.EntityDef.{EntityDef}
-use Rattle.pc_core.specs.declared.declarations.Method.{Method}
-use Rattle.pc_core.specs.CoreData.{CoreData}
-use Rattle.pc_core.specs.Entities.{HasBuiltIn}
-use Rattle.pc_members.specs.Members.{IsAbove, IsTransitiveClosure, LeadsInFile, Member, built_in_names, entity_names, field_texts, method_texts}
-use Rattle.pc_members.specs.Parts.{or_nil}
-use Rattle.pc_members.specs.Founded.{IsFounded}
-use Rattle.pc_tree.specs.Kinds.{first_own}
+use Rattle.pc_core.specs.{declared.declarations.EntityDef.EntityDef, declared.declarations.Method.Method, CoreData.CoreData, Entities.HasBuiltIn}
+use Rattle.pc_members.specs.{Members.{IsAbove, IsTransitiveClosure, LeadsInFile, Member, built_in_names, entity_names, field_texts, method_texts}, Parts.or_nil, Founded.IsFounded, MemberLists.members}
 use Rattle.pc_members.specs.Members as chains
-use Rattle.pc_members.specs.MemberLists.{members}
-use Rattle.pc_members.proofs.Closings.{no_entity}
+use Rattle.pc_members.proofs.{Closings.no_entity, Named.is_trait_named}
 use Rattle.pc_names.proofs.Founded.{collected_founded}
 use Rattle.pc_file_spec.specs.Cores.{Owned, owned, texts_of_file, known_of, default_cap, Parts, built_in_parts, core_with, built_ins, core_field, core_entity, entities_from}
-use Rattle.pc_file_spec.proofs.Entities.{position_get}
-use Rattle.pc_members.proofs.Named.{is_trait_named}
-use Rattle.pc_file_spec.proofs.Tables.{language_kept, member_there, text_found}
-use Rattle.pc_file_spec.proofs.Owners.{starts, methods_run, members_follow}
-use Rattle.pc_file_spec.proofs.Collects.{Collects, collects}
-use Rattle.pc_file_spec.proofs.Counts.{members_limited}
-use Rattle.pc_file_spec.proofs.Parts.{At, AllAt}
-use Rattle.pc_file_spec.proofs.Formation.{stands_with, parts_are}
-use Rattle.pc_file_spec.proofs.Settings.{all_members, entities_length, entity_get, entity_cases, method_at, at_get}
-use Rattle.pc_core_relation.specs.Files.{NamesAreRight, FieldStands, EntityStands, IsCoreOf, EntityHasName, MethodStands}
-use Rattle.pc_core_relation.specs.Parts.{above_of}
-use Rattle.pc_core_relation.specs.Laws.{MadeCoresStand}
-use Rattle.pc_core_relation.proofs.Lists.{map_matches}
-use Rattle.pc_core_relation.proofs.Texts.{texts_are_firsts}
-use Rattle.pc_core_relation.proofs.Types.{entity_name, numbers_match}
-use Rattle.pc_core_relation.proofs.Contexts.{all_names, own_at}
-use Rattle.pc_core_relation.proofs.Members.{type_stands, member_stands}
-use Rattle.pc_core_relation.proofs.Inherited.{members_have}
-use Rattle.pc_core_relation.proofs.Mirror.{cap_said}
-use Rattle.pc_core_relation.proofs.Sound.{names_are_right}
+use Rattle.pc_file_spec.proofs.{Entities.position_get, Tables.{language_kept, member_there, text_found}, Owners.{starts, methods_run, members_follow}, Collects.{Collects, collects}, Counts.members_limited, Parts.{At, AllAt}, Formation.{stands_with, parts_are}, Settings.{all_members, entities_length, entity_get, entity_cases, method_at, at_get}}
+use Rattle.pc_core_relation.specs.{Files.{NamesAreRight, FieldStands, EntityStands, IsCoreOf, EntityHasName, MethodStands}, Parts.above_of, Laws.MadeCoresStand}
+use Rattle.pc_core_relation.proofs.{Lists.map_matches, Texts.texts_are_firsts, Types.{entity_name, numbers_match}, Contexts.{all_names, own_at}, Members.{type_stands, member_stands}, Inherited.members_have, Mirror.cap_said, Sound.names_are_right}
 
 -- ---- what is above the built-in entities
 

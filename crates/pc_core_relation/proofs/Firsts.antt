@@ -1,15 +1,11 @@
 -- The methods that a walk picks are the first with their names among those that pass its test.
-use Rattle.std.proofs.Common.{◌≡◌, ℕ, zero, suc, ◌<◌, ◌&&◌, List, [], ◌∷◌, ◌++◌, Some, Bool, true, false, not, refl, sym, ap, ◌∙◌, subst, arith, if◌then◌else◌, inl, inr}
+use Rattle.std.proofs.{Common.{◌≡◌, ℕ, zero, suc, ◌<◌, ◌&&◌, List, [], ◌∷◌, ◌++◌, Some, Bool, true, false, not, refl, sym, ap, ◌∙◌, subst, arith, if◌then◌else◌, inl, inr}, lemmas.Bool.{cases_lt, not-true}, lemmas.Option.{same_Some, none-some}}
 use Rattle.std.specs.Prelude.{slice_get, ◌↔◌}
-use Rattle.std.proofs.lemmas.Bool.{cases_lt, not-true}
-use Rattle.std.proofs.lemmas.Option.{same_Some, none-some}
-use Rattle.pc_lists.specs.Lists.{Has, Text}
-use Rattle.pc_lists.proofs.Bools.{true_false, no_both, first_true, second_true}
-use Rattle.pc_lists.proofs.Elements.{has_on, has_front, has_behind, has_either}
+use Rattle.pc_base.specs.Lists.{Has, Text}
+use Rattle.pc_base.proofs.{Bools.{true_false, no_both, first_true, second_true}, Elements.{has_on, has_front, has_behind, has_either}}
 use Rattle.pc_tree.specs.declared.kinds.EntityKind.{EntityKind}
 use Rattle.pc_tree.specs.Tree as t
-use Rattle.pc_members.specs.MemberLists.{is_among, firsts, methods_taken_over}
-use Rattle.pc_members.specs.Members.{is_takable}
+use Rattle.pc_members.specs.{MemberLists.{is_among, firsts, methods_taken_over}, Members.is_takable}
 use Rattle.pc_members.proofs.Differences.{among_has, has_among}
 use Rattle.pc_core_relation.specs.Files.{IsFirstOfName, AreFirstOfNames, AnyMethod}
 use Rattle.pc_core_relation.proofs.Lists.{only_one, one_order}

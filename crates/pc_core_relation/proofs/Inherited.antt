@@ -1,21 +1,14 @@
 -- An entity of a file whose names have no fault has one list of members, and it is the one that is computed.
 use Rattle.std.proofs.Common.{◌≡◌, ℕ, zero, suc, ◌<◌, List, [], ◌∷◌, ◌++◌, length, map, Some, Bool, true, false, refl, sym, ap, ap₂, ◌∙◌, subst, arith, if◌then◌else◌}
 use Rattle.std.specs.Prelude.{slice_get}
-use Rattle.pc_lists.specs.Lists.{Has}
-use Rattle.pc_lists.proofs.Elements.{has_on}
-use Rattle.pc_tree.specs.declared.written_names.Name.{Name}
-use Rattle.pc_tree.specs.Kinds.{is_abstract}
+use Rattle.pc_base.specs.Lists.{Has}
+use Rattle.pc_base.proofs.Elements.{has_on}
+use Rattle.pc_tree.specs.{declared.written_names.Name.Name, Kinds.is_abstract}
 use Rattle.pc_tree.specs.Tree as t
-use Rattle.pc_members.specs.Members.{has_added, IsTransitiveClosure, Member, written, without_body, own_texts}
-use Rattle.pc_members.specs.Parts.{added_if}
-use Rattle.pc_members.specs.Founded.{IsFounded}
-use Rattle.pc_members.specs.MemberLists.{firsts, entity_named, of_each, trait_methods, abstract_methods, methods_taken_over, taken_over, abstract_members, concrete_members, members}
-use Rattle.pc_members.specs.Parts.{of_entity}
+use Rattle.pc_members.specs.{Members.{has_added, IsTransitiveClosure, Member, written, without_body, own_texts}, Parts.{added_if, of_entity}, Founded.IsFounded, MemberLists.{firsts, entity_named, of_each, trait_methods, abstract_methods, methods_taken_over, taken_over, abstract_members, concrete_members, members}}
 use Rattle.pc_names.proofs.Founded.{collected_founded}
-use Rattle.pc_members.proofs.Named.{named_is, one_entity}
-use Rattle.pc_members.proofs.Ranks.{Target, target, named_by, rank_at, rank_less, rank_few, steady}
-use Rattle.pc_core_relation.specs.Files.{AreFirstOfNames, AnyMethod, HasMethods, inherits, Gives, no_more, more, MayTake, HasMembers, bodiless, with_bodies}
-use Rattle.pc_core_relation.specs.Laws.{MembersAreComputed}
+use Rattle.pc_members.proofs.{Named.{named_is, one_entity}, Ranks.{Target, target, named_by, rank_at, rank_less, rank_few, steady}}
+use Rattle.pc_core_relation.specs.{Files.{AreFirstOfNames, AnyMethod, HasMethods, inherits, Gives, no_more, more, MayTake, HasMembers, bodiless, with_bodies}, Laws.MembersAreComputed}
 use Rattle.pc_core_relation.proofs.Firsts.{first_one, firsts_are, taken_are}
 
 target_name : (file : t.File) (n : Name) (q : Target file n) → q.entity.name.text ≡ n.text

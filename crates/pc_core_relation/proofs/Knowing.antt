@@ -1,24 +1,15 @@
 -- What bodies know of a file's members by name is what they know when the core is made.
 use Rattle.std.proofs.Common.{◌≡◌, ℕ, suc, ◌+◌, List, [], ◌∷◌, ◌++◌, length, map, Bool, true, false, refl, sym, ap, ◌∙◌, append-nil, if◌then◌else◌}
-use Rattle.std.specs.Prelude.{codes, filter}
-use Rattle.std.specs.Option.{option_map_or}
-use Rattle.std.specs.Str.{bytes_eq}
-use Rattle.pc_tree.specs.declared.kinds.EntityKind.{EntityKind}
+use Rattle.std.specs.{Prelude.{codes, filter}, Option.option_map_or, Str.bytes_eq}
+use Rattle.pc_tree.specs.{declared.kinds.EntityKind.EntityKind, declared.file.ParamDef.ParamDef, Kinds.none_entity}
 use Rattle.pc_tree.specs.declared.kinds.EntityKind.TheVariants as kind
-use Rattle.pc_tree.specs.declared.file.ParamDef.{ParamDef}
-use Rattle.pc_tree.specs.Kinds.{none_entity}
 use Rattle.pc_tree.specs.Tree as t
-use Rattle.pc_members.specs.Members.{Member, written, added, member_text, built_in_names}
-use Rattle.pc_members.specs.MemberLists.{is_constructor, members, member_span}
-use Rattle.pc_body_spec.specs.Bodies.{KnownEntity, Constructor, TypeMeaning, primitive, no_value, is_own, by_kind, type_from, constructor_named, is_among_names, Roses, one, added_none, body_of, body_around, added_body, initials_then}
-use Rattle.pc_body_spec.specs.Faults.{is_entity, body_faults, initial_faults}
-use Rattle.pc_body_spec.specs.Slots.{Local, initial_locals, method_locals}
-use Rattle.pc_body_spec.specs.Methods.{local_names}
+use Rattle.pc_members.specs.{Members.{Member, written, added, member_text, built_in_names}, MemberLists.{is_constructor, members, member_span}}
+use Rattle.pc_body_spec.specs.{Bodies.{KnownEntity, Constructor, TypeMeaning, primitive, no_value, is_own, by_kind, type_from, constructor_named, is_among_names, Roses, one, added_none, body_of, body_around, added_body, initials_then}, Faults.{is_entity, body_faults, initial_faults}, Slots.{Local, initial_locals, method_locals}, Methods.local_names}
 use Rattle.pc_file_spec.specs.Cores.{Owned, constructors_from, known_from, built_in_known, known_of, context_of}
 use Rattle.pc_file_spec.proofs.Steps.{member_faults, member_names, member_rose}
 use Rattle.pc_core_relation.specs.MemberFaults.{Owner, known_by_name, known_in, in_full, Bodied, node_count, nodes_in, names_of_slots}
-use Rattle.pc_core_relation.proofs.Alike.{Paired, neither, paired_if, TypesMatch, makers, same_type, Alike, body_same, initial_same}
-use Rattle.pc_core_relation.proofs.Bare.{count_same, body_counts, initials_bare, around_bare}
+use Rattle.pc_core_relation.proofs.{Alike.{Paired, neither, paired_if, TypesMatch, makers, same_type, Alike, body_same, initial_same}, Bare.{count_same, body_counts, initials_bare, around_bare}}
 
 -- ---- constructors
 

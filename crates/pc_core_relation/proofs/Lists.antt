@@ -1,11 +1,8 @@
 -- Lists that match, lists in an order, and runs within a list.
-use Rattle.std.proofs.Common.{◌≡◌, ℕ, zero, suc, ◌+◌, ◌-◌, ◌<◌, ◌≤◌, List, [], ◌∷◌, ◌++◌, length, map, take, drop, Some, refl, sym, ap, ap₂, ◌∙◌, subst, arith, length-drop}
+use Rattle.std.proofs.{Common.{◌≡◌, ℕ, zero, suc, ◌+◌, ◌-◌, ◌<◌, ◌≤◌, List, [], ◌∷◌, ◌++◌, length, map, take, drop, Some, refl, sym, ap, ap₂, ◌∙◌, subst, arith, length-drop}, lemmas.Option.{same_Some, none-some}, Math.Seq.take-append-add, lemmas.List.{length-map, take-append-drop}}
 use Rattle.std.specs.Prelude.{slice_get, slice_range}
-use Rattle.std.proofs.lemmas.Option.{same_Some, none-some}
-use Rattle.std.proofs.Math.Seq.{take-append-add}
-use Rattle.std.proofs.lemmas.List.{length-map, take-append-drop}
-use Rattle.pc_lists.specs.Lists.{Has}
-use Rattle.pc_lists.proofs.Gets.{get_map}
+use Rattle.pc_base.specs.Lists.{Has}
+use Rattle.pc_base.proofs.Gets.{get_map}
 use Rattle.pc_core_relation.specs.Files.{Match}
 
 -- ---- lists that match

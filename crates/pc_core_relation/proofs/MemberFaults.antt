@@ -1,46 +1,22 @@
 -- The fault at which the making of a core stops is the first of the faults of the file's members.
-use Rattle.std.proofs.Common.{◌≡◌, ℕ, suc, ◌+◌, ◌<◌, ◌≤◌, List, [], ◌∷◌, ◌++◌, length, map, drop, Option, Some, None, refl, sym, ap, ap₂, ◌∙◌, subst, arith}
-use Rattle.std.specs.Prelude.{flat_map, slice_get, nat_lt, Result, Ok, Err}
-use Rattle.std.specs.Option.{option_map_or}
-use Rattle.std.proofs.lemmas.Bool.{lt-ltb, le-ltb}
-use Rattle.std.proofs.lemmas.Option.{same_Some, none-some}
-use Rattle.std.proofs.lemmas.List.{length-map, map-append}
-use Rattle.pc_caps.specs.declared.span.Span.{Span}
-use Rattle.pc_caps.specs.Limits.{method_limit, node_limit}
-use Rattle.pc_lists.specs.Lists.{Has, one_if}
-use Rattle.pc_lists.proofs.Elements.{has_on, differ_none}
-use Rattle.pc_lists.proofs.Gets.{get_front, get_drop, get_map, map_get}
-use Rattle.pc_tree.specs.declared.written_names.Name.{Name}
-use Rattle.pc_tree.specs.Kinds.{first_own}
+use Rattle.std.proofs.{Common.{◌≡◌, ℕ, suc, ◌+◌, ◌<◌, ◌≤◌, List, [], ◌∷◌, ◌++◌, length, map, drop, Option, Some, None, refl, sym, ap, ap₂, ◌∙◌, subst, arith}, lemmas.Bool.{lt-ltb, le-ltb}, lemmas.Option.{same_Some, none-some}, lemmas.List.{length-map, map-append}}
+use Rattle.std.specs.{Prelude.{flat_map, slice_get, nat_lt, Result, Ok, Err}, Option.option_map_or}
+use Rattle.pc_base.specs.{declared.span.Span.Span, Limits.{method_limit, node_limit}, Lists.{Has, one_if}}
+use Rattle.pc_base.proofs.{Elements.{has_on, differ_none}, Gets.{get_front, get_drop, get_map, map_get}}
+use Rattle.pc_tree.specs.{declared.written_names.Name.Name, Kinds.first_own}
 use Rattle.pc_tree.specs.Tree as t
-use Rattle.pc_core.specs.declared.nodes.Node.{Node}
-use Rattle.pc_core.specs.CoreData.{CoreData}
-use Rattle.pc_members.specs.Members.{Member, written, added, entity_names}
-use Rattle.pc_members.specs.MemberLists.{members, member_span}
-use Rattle.pc_members.specs.Edges.{above_all, edges_of}
+use Rattle.pc_core.specs.{declared.nodes.Node.Node, CoreData.CoreData}
+use Rattle.pc_members.specs.{Members.{Member, written, added, entity_names}, MemberLists.{members, member_span}, Edges.{above_all, edges_of}}
 use Rattle.pc_members.proofs.Closings.{closes}
-use Rattle.pc_names.specs.Faults.{NamesData, Collected}
-use Rattle.pc_names.specs.declared.fault.NameFault.{NameFault}
+use Rattle.pc_names.specs.{Faults.{NamesData, Collected}, declared.fault.NameFault.NameFault}
 use Rattle.pc_names.specs.declared.fault.NameFault.TheVariants as fault
 use Rattle.pc_names.specs.declared.fault.Which.TheVariants as which
 use Rattle.pc_names.proofs.Founded.{collected_founded}
-use Rattle.pc_body_spec.specs.Bodies.{Rose}
-use Rattle.pc_body_spec.specs.Fold.{Numbered, put}
-use Rattle.pc_body_spec.specs.Bodies.{Context}
-use Rattle.pc_body_spec.specs.Faults.{BodyNameFault, unknown, double, long_text, body_faults}
-use Rattle.pc_body_spec.specs.Methods.{unless_fault, unless_name, unless_full, numbered_or_full, put_body}
+use Rattle.pc_body_spec.specs.{Bodies.{Rose, Context}, Fold.{Numbered, put}, Faults.{BodyNameFault, unknown, double, long_text, body_faults}, Methods.{unless_fault, unless_name, unless_full, numbered_or_full, put_body}}
 use Rattle.pc_file_spec.specs.Cores.{Owned, owned, members_from, context_of, Parts, body_fault, built_in_parts, outcome, with_outcome, and_member, and_members, if_ok, parts_of, core_with, core_of, IsElabFault}
-use Rattle.pc_file_spec.proofs.Collects.{collects}
-use Rattle.pc_file_spec.proofs.Counts.{members_limited}
-use Rattle.pc_file_spec.proofs.Steps.{member_faults, member_names, member_rose}
-use Rattle.pc_core_relation.specs.Files.{HasMembers}
-use Rattle.pc_core_relation.specs.Laws.{MemberFaultsAreFirst}
-use Rattle.pc_core_relation.specs.MemberFaults.{Owner, Bodied, bodies_of, known_in, in_full, node_count, nodes_in, fault_of_body, names_of_slots, faults_of_member, faults_after, IsMemberFault}
-use Rattle.pc_core_relation.proofs.Inherited.{members_have, members_one}
-use Rattle.pc_core_relation.proofs.Knowing.{own, owners, bodied, faults_known, nodes_known, slots_known, place_known}
-use Rattle.pc_core_relation.proofs.NodeCounts.{Counts, put_counts, put_few}
-use Rattle.pc_core_relation.proofs.NoFaults.{few_counts, names_founded, no_faults}
-use Rattle.pc_core_relation.proofs.Sound.{names_are_right}
+use Rattle.pc_file_spec.proofs.{Collects.collects, Counts.members_limited, Steps.{member_faults, member_names, member_rose}}
+use Rattle.pc_core_relation.specs.{Files.HasMembers, Laws.MemberFaultsAreFirst, MemberFaults.{Owner, Bodied, bodies_of, known_in, in_full, node_count, nodes_in, fault_of_body, names_of_slots, faults_of_member, faults_after, IsMemberFault}}
+use Rattle.pc_core_relation.proofs.{Inherited.{members_have, members_one}, Knowing.{own, owners, bodied, faults_known, nodes_known, slots_known, place_known}, NodeCounts.{Counts, put_counts, put_few}, NoFaults.{few_counts, names_founded, no_faults}, Sound.names_are_right}
 
 -- ---- one member
 

@@ -1,37 +1,19 @@
 -- The methods of the core computed from a file member by member represent these members.
-use Rattle.std.proofs.Common.{◌≡◌, ℕ, ◌+◌, ◌≤◌, List, [], ◌++◌, length, map, Option, Some, None, refl, sym, ap, ◌∙◌, subst, arith, inl, inr}
+use Rattle.std.proofs.{Common.{◌≡◌, ℕ, ◌+◌, ◌≤◌, List, [], ◌++◌, length, map, Option, Some, None, refl, sym, ap, ◌∙◌, subst, arith, inl, inr}, lemmas.List.append_assoc}
 use Rattle.std.specs.Prelude.{slice_range, ◌↔◌}
-use Rattle.std.proofs.lemmas.List.{append_assoc}
 use Rattle.pc_caps.specs.declared.capability.Cap.{Cap}
-use Rattle.pc_lists.specs.Lists.{Has, Differ}
-use Rattle.pc_tree.specs.declared.kinds.MethodWord.{MethodWord}
+use Rattle.pc_base.specs.Lists.{Has, Differ}
+use Rattle.pc_tree.specs.{declared.kinds.MethodWord.MethodWord, declared.written_names.TypeRef.TypeRef}
 use Rattle.pc_tree.specs.declared.kinds.MethodWord.TheVariants as word
-use Rattle.pc_tree.specs.declared.written_names.TypeRef.{TypeRef}
 use Rattle.pc_tree.specs.Tree as t
-use Rattle.pc_core.specs.declared.declarations.Method.{Method}
-use Rattle.pc_core.specs.declared.nodes.Node.{Node}
-use Rattle.pc_core.specs.declared.nodes.Slot.{Slot}
-use Rattle.pc_core.specs.CoreData.{CoreData, own_slots}
-use Rattle.pc_members.specs.Members.{entity_names, Member, written, added, member_text}
-use Rattle.pc_members.specs.MemberLists.{members}
-use Rattle.pc_body_spec.specs.Bodies.{Context}
-use Rattle.pc_body_spec.specs.Fold.{local_slot, type_of_name, written_of}
+use Rattle.pc_core.specs.{declared.declarations.Method.Method, declared.nodes.Node.Node, declared.nodes.Slot.Slot, CoreData.{CoreData, own_slots}}
+use Rattle.pc_members.specs.{Members.{entity_names, Member, written, added, member_text}, MemberLists.members}
+use Rattle.pc_body_spec.specs.{Bodies.Context, Fold.{local_slot, type_of_name, written_of}}
 use Rattle.pc_file_spec.specs.Cores.{Owned, known_of, context_of, slots_from, param_of, params_of, member_locals, type_in, word_result, result_of, written_result, Parts, built_in_parts, core_with}
 use Rattle.pc_file_spec.specs.Cores as known
-use Rattle.pc_file_spec.proofs.Ranges.{range_middle}
-use Rattle.pc_file_spec.proofs.Tables.{text_found}
-use Rattle.pc_file_spec.proofs.Collects.{Collects}
-use Rattle.pc_file_spec.proofs.Origins.{Sort, sort_of}
-use Rattle.pc_file_spec.proofs.Declared.{types_are}
-use Rattle.pc_file_spec.proofs.Steps.{member_rose, member_faults, member_names, slots_count}
-use Rattle.pc_file_spec.proofs.Parts.{At, AllAt}
-use Rattle.pc_file_spec.proofs.Settings.{all_members, method_at}
+use Rattle.pc_file_spec.proofs.{Ranges.range_middle, Tables.text_found, Collects.Collects, Origins.{Sort, sort_of}, Declared.types_are, Steps.{member_rose, member_faults, member_names, slots_count}, Parts.{At, AllAt}, Settings.{all_members, method_at}}
 use Rattle.pc_core_relation.specs.Files.{Match, IsType, IsWritten, IsNumbered, ParamStands, LocalStands, BodyIs, MethodStands}
-use Rattle.pc_core_relation.proofs.Lists.{match_none, map_matches}
-use Rattle.pc_core_relation.proofs.Mirror.{params_in, AnswerIs, WordResultIs, ResultIs, rose_of, faults_in, owned_context, ByTables, said}
-use Rattle.pc_core_relation.proofs.Numbers.{numbered_in, what_is_put_is_numbered}
-use Rattle.pc_core_relation.proofs.Types.{entity_name, type_is, is_type, type_there}
-use Rattle.pc_core_relation.proofs.Contexts.{all_names, seen_same, context_same, text_there}
+use Rattle.pc_core_relation.proofs.{Lists.{match_none, map_matches}, Mirror.{params_in, AnswerIs, WordResultIs, ResultIs, rose_of, faults_in, owned_context, ByTables, said}, Numbers.{numbered_in, what_is_put_is_numbered}, Types.{entity_name, type_is, is_type, type_there}, Contexts.{all_names, seen_same, context_same, text_there}}
 
 -- ---- what a member means
 

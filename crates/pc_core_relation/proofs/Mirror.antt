@@ -1,27 +1,17 @@
 -- What represents a member by the tables from which the core of a file is computed, and by the definitions.
 use Rattle.std.proofs.Common.{◌≡◌, ℕ, ◌≤◌, List, [], ◌∷◌, Option, Some, None, Bool, true, false, refl, sym, subst, arith}
 use Rattle.std.specs.Prelude.{slice_get}
-use Rattle.pc_caps.specs.declared.capability.Cap.{Cap}
+use Rattle.pc_caps.specs.{declared.capability.Cap.Cap, declared.capability.Form.Form}
 use Rattle.pc_caps.specs.declared.capability.Cap.TheVariants as cap
-use Rattle.pc_caps.specs.declared.capability.Form.{Form}
 use Rattle.pc_caps.specs.declared.capability.Form.TheVariants as form
-use Rattle.pc_caps.specs.Limits.{slot_limit}
-use Rattle.pc_tree.specs.declared.kinds.EntityKind.{EntityKind}
+use Rattle.pc_base.specs.Limits.{slot_limit}
+use Rattle.pc_tree.specs.{declared.kinds.EntityKind.EntityKind, declared.kinds.MethodWord.MethodWord, declared.written_names.TypeRef.TypeRef, declared.file.ParamDef.ParamDef, Kinds.none_entity}
 use Rattle.pc_tree.specs.declared.kinds.EntityKind.TheVariants as kind
-use Rattle.pc_tree.specs.declared.kinds.MethodWord.{MethodWord}
 use Rattle.pc_tree.specs.declared.kinds.MethodWord.TheVariants as word
-use Rattle.pc_tree.specs.declared.written_names.TypeRef.{TypeRef}
-use Rattle.pc_tree.specs.declared.file.ParamDef.{ParamDef}
 use Rattle.pc_tree.specs.Tree as t
-use Rattle.pc_tree.specs.Kinds.{none_entity}
-use Rattle.pc_core.specs.declared.declarations.Method.{Method}
-use Rattle.pc_core.specs.declared.declarations.ParamInfo.{ParamInfo}
-use Rattle.pc_core.specs.CoreData.{CoreData}
-use Rattle.pc_members.specs.Members.{Member, written, added, member_text}
-use Rattle.pc_members.specs.MemberLists.{member_span}
-use Rattle.pc_body_spec.specs.Bodies.{Rose, body_of, added_body, Context}
-use Rattle.pc_body_spec.specs.Faults.{BodyNameFault, body_faults, initial_faults}
-use Rattle.pc_body_spec.specs.Parts.{cap_or}
+use Rattle.pc_core.specs.{declared.declarations.Method.Method, declared.declarations.ParamInfo.ParamInfo, CoreData.CoreData}
+use Rattle.pc_members.specs.{Members.{Member, written, added, member_text}, MemberLists.member_span}
+use Rattle.pc_body_spec.specs.{Bodies.{Rose, body_of, added_body, Context}, Faults.{BodyNameFault, body_faults, initial_faults}, Parts.cap_or}
 use Rattle.pc_file_spec.specs.Cores.{Owned, owned, default_cap, kind_of, receiver_cap, word_receiver, result_form, object_of, member_locals, placed_of}
 use Rattle.pc_core_relation.specs.Files.{Match, IsType, context_in, IsReceiver, ParamStands, IsForm, IsFunctionResult, IsObject, IsResult, SlotsStand, BodyIs, MethodStands, IsOwnCap}
 use Rattle.pc_core_relation.proofs.Lists.{match_none}

@@ -1,40 +1,19 @@
 -- If the names of a file are right, the passes over them find no fault.
-use Rattle.std.proofs.Common.{◌≡◌, ℕ, zero, suc, ◌+◌, ◌<◌, ◌≤◌, ◌&&◌, ◌||◌, List, [], ◌∷◌, ◌++◌, length, map, drop, Option, Some, None, Bool, true, false, not, refl, sym, ap, ap₂, ◌∙◌, subst, arith, append-nil, if◌then◌else◌}
-use Rattle.std.specs.Prelude.{slice_get, nat_lt, codes}
-use Rattle.std.specs.Str.{bytes_eq}
-use Rattle.std.proofs.lemmas.Bool.{lt-ltb, le-ltb, and_parts}
-use Rattle.std.proofs.lemmas.Option.{same_Some, none-some}
-use Rattle.std.proofs.lemmas.List.{length_push, length-append, length-map, append_assoc}
-use Rattle.pc_caps.specs.Limits.{field_limit, method_limit}
-use Rattle.pc_lists.specs.Lists.{Has, Differ, Follow, Text}
-use Rattle.pc_lists.proofs.Bools.{true_false}
-use Rattle.pc_lists.proofs.Elements.{has_on, has_front}
-use Rattle.pc_lists.proofs.Gets.{get_front, get_behind, get_below, get_append, get_drop, get_map}
-use Rattle.pc_tree.specs.declared.file.ParamDef.{ParamDef}
-use Rattle.pc_tree.specs.declared.written_names.Name.{Name}
-use Rattle.pc_tree.specs.declared.written_names.TypeRef.{TypeRef}
-use Rattle.pc_tree.specs.Kinds.{is_abstract, first_own}
+use Rattle.std.proofs.{Common.{◌≡◌, ℕ, zero, suc, ◌+◌, ◌<◌, ◌≤◌, ◌&&◌, ◌||◌, List, [], ◌∷◌, ◌++◌, length, map, drop, Option, Some, None, Bool, true, false, not, refl, sym, ap, ap₂, ◌∙◌, subst, arith, append-nil, if◌then◌else◌}, lemmas.Bool.{lt-ltb, le-ltb, and_parts}, lemmas.Option.{same_Some, none-some}, lemmas.List.{length_push, length-append, length-map, append_assoc}}
+use Rattle.std.specs.{Prelude.{slice_get, nat_lt, codes}, Str.bytes_eq}
+use Rattle.pc_base.specs.{Limits.{field_limit, method_limit}, Lists.{Has, Differ, Follow, Text}}
+use Rattle.pc_base.proofs.{Bools.true_false, Elements.{has_on, has_front}, Gets.{get_front, get_behind, get_below, get_append, get_drop, get_map}}
+use Rattle.pc_tree.specs.{declared.file.ParamDef.ParamDef, declared.written_names.Name.Name, declared.written_names.TypeRef.TypeRef, Kinds.{is_abstract, first_own}}
 use Rattle.pc_tree.specs.Tree as t
-use Rattle.pc_names.specs.declared.fault.NameFault.{NameFault}
+use Rattle.pc_names.specs.{declared.fault.NameFault.NameFault, Faults.{either_fault, type_faults, provided_faults, field_faults, param_faults, signature_faults, method_faults, added_faults, entity_faults, entity_name_faults, declaration_faults, count_faults, cycle_faults, main_faults, name_faults}, Parts.{where_, result_faults, is_member_name, entities_faults, known_limit, method_count}, Mains.is_main}
 use Rattle.pc_names.specs.declared.fault.NameFault.TheVariants as fault
 use Rattle.pc_names.specs.declared.fault.Which.TheVariants as which
-use Rattle.pc_members.specs.MemberLists.{is_among, members, with_name, with_traits, trait_names}
-use Rattle.pc_members.specs.Members.{built_in_names, texts_of, entity_names, field_texts, method_texts, has_added, IsTransitiveClosure, own_texts}
-use Rattle.pc_members.specs.Parts.{added_text}
-use Rattle.pc_members.specs.Founded.{IsFounded}
-use Rattle.pc_members.specs.Edges.{has_number}
-use Rattle.pc_members.proofs.Completed.{among_parts}
-use Rattle.pc_members.proofs.Differences.{among_has, equal_texts, has_among, same_text}
-use Rattle.pc_members.proofs.Reaches.{has_in, in_get}
-use Rattle.pc_names.specs.Faults.{either_fault, type_faults, provided_faults, field_faults, param_faults, signature_faults, method_faults, added_faults, entity_faults, entity_name_faults, declaration_faults, count_faults, cycle_faults, main_faults, name_faults}
-use Rattle.pc_names.specs.Parts.{where_, result_faults, is_member_name, entities_faults, known_limit, method_count}
-use Rattle.pc_names.specs.Mains.{is_main}
-use Rattle.pc_names.proofs.CycleFirsts.{bad}
-use Rattle.pc_names.proofs.Founded.{Adds}
+use Rattle.pc_members.specs.{MemberLists.{is_among, members, with_name, with_traits, trait_names}, Members.{built_in_names, texts_of, entity_names, field_texts, method_texts, has_added, IsTransitiveClosure, own_texts}, Parts.added_text, Founded.IsFounded, Edges.has_number}
+use Rattle.pc_members.proofs.{Completed.among_parts, Differences.{among_has, equal_texts, has_among, same_text}, Reaches.{has_in, in_get}}
+use Rattle.pc_names.proofs.{CycleFirsts.bad, Founded.Adds}
 use Rattle.pc_file_spec.specs.Cores.{owned, members_from}
 use Rattle.pc_file_spec.proofs.Entities.{own_entity}
-use Rattle.pc_core_relation.specs.Files.{NamesTrait, SignatureIsRight, DeclarationsAreRight, NamesAreRight}
-use Rattle.pc_core_relation.specs.Parts.{param_texts}
+use Rattle.pc_core_relation.specs.{Files.{NamesTrait, SignatureIsRight, DeclarationsAreRight, NamesAreRight}, Parts.param_texts}
 
 -- ---- lists of no faults
 

@@ -1,15 +1,10 @@
 -- Nodes are appended if there are not too many.
-use Rattle.std.proofs.Common.{◌≡◌, ℕ, suc, ◌+◌, ◌<◌, ◌≤◌, List, [], ◌∷◌, ◌++◌, length, Some, None, Bool, true, false, refl, sym, ◌∙◌, subst, inl, inr, arith, if◌then◌else◌}
+use Rattle.std.proofs.{Common.{◌≡◌, ℕ, suc, ◌+◌, ◌<◌, ◌≤◌, List, [], ◌∷◌, ◌++◌, length, Some, None, Bool, true, false, refl, sym, ◌∙◌, subst, inl, inr, arith, if◌then◌else◌}, lemmas.Bool.cases_lt, lemmas.List.length_push}
 use Rattle.std.specs.Prelude.{nat_lt}
-use Rattle.std.proofs.lemmas.Bool.{cases_lt}
-use Rattle.std.proofs.lemmas.List.{length_push}
-use Rattle.pc_lists.proofs.Bools.{true_false}
-use Rattle.pc_caps.specs.declared.span.Span.{Span}
-use Rattle.pc_core.specs.declared.nodes.Node.{Node}
-use Rattle.pc_core.specs.declared.nodes.NodeKind.{NodeKind}
-use Rattle.pc_body_spec.specs.Bodies.{Rose, Roses, rose, no_roses, more, node_of}
-use Rattle.pc_body_spec.specs.Fold.{Numbered, and_then, push, put, puts}
-use Rattle.pc_caps.specs.Limits.{node_limit}
+use Rattle.pc_base.proofs.Bools.{true_false}
+use Rattle.pc_base.specs.{declared.span.Span.Span, Limits.node_limit}
+use Rattle.pc_core.specs.{declared.nodes.Node.Node, declared.nodes.NodeKind.NodeKind}
+use Rattle.pc_body_spec.specs.{Bodies.{Rose, Roses, rose, no_roses, more, node_of}, Fold.{Numbered, and_then, push, put, puts}}
 use Rattle.pc_body_spec.proofs.PostOrders.{post}
 use Rattle.pc_core_relation.specs.MemberFaults.{node_count, nodes_count}
 

@@ -1,20 +1,13 @@
 -- A rose is numbered in a list of nodes iff it was appended there.
-use Rattle.std.proofs.Common.{◌≡◌, ℕ, zero, suc, ◌+◌, ◌<◌, ◌≤◌, List, [], ◌∷◌, ◌++◌, length, take, Some, nat_lt, true, refl, ap, ◌∙◌, sym, subst, arith}
+use Rattle.std.proofs.{Common.{◌≡◌, ℕ, zero, suc, ◌+◌, ◌<◌, ◌≤◌, List, [], ◌∷◌, ◌++◌, length, take, Some, nat_lt, true, refl, ap, ◌∙◌, sym, subst, arith}, lemmas.Bool.lt-ltb, lemmas.Option.{same_Some, none-some}}
 use Rattle.std.specs.Prelude.{slice_get}
-use Rattle.std.proofs.lemmas.Bool.{lt-ltb}
-use Rattle.std.proofs.lemmas.Option.{same_Some, none-some}
-use Rattle.pc_caps.specs.declared.span.Span.{Span}
-use Rattle.pc_lists.proofs.Gets.{get_front, get_behind, get_below}
-use Rattle.pc_core.specs.declared.nodes.Node.{Node}
-use Rattle.pc_core.specs.declared.nodes.NodeKind.{NodeKind}
-use Rattle.pc_body_spec.specs.Bodies.{Rose, Roses, rose, more, no_roses, node_of}
-use Rattle.pc_body_spec.specs.Fold.{and_then, put, puts, push}
-use Rattle.pc_caps.specs.Limits.{node_limit}
-use Rattle.pc_body_spec.specs.Laws.{WasPut}
+use Rattle.pc_base.specs.{declared.span.Span.Span, Limits.node_limit}
+use Rattle.pc_base.proofs.Gets.{get_front, get_behind, get_below}
+use Rattle.pc_core.specs.{declared.nodes.Node.Node, declared.nodes.NodeKind.NodeKind}
+use Rattle.pc_body_spec.specs.{Bodies.{Rose, Roses, rose, more, no_roses, node_of}, Fold.{and_then, put, puts, push}, Laws.WasPut}
 use Rattle.pc_body_spec.proofs.PostOrders.{Parts, parts, Pushed, pushed, AllStand, post, posts}
-use Rattle.pc_core_relation.specs.Files.{IsNumbered, AreNumbered}
+use Rattle.pc_core_relation.specs.{Files.{IsNumbered, AreNumbered}, Laws.{WhatIsPutIsNumbered, WhatIsNumberedIsPut}}
 use Rattle.pc_core_relation.proofs.Lists.{take_count}
-use Rattle.pc_core_relation.specs.Laws.{WhatIsPutIsNumbered, WhatIsNumberedIsPut}
 
 -- ---- more nodes after it
 

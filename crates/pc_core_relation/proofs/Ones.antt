@@ -1,54 +1,21 @@
 -- The core of a file is the one computed from it.
-use Rattle.std.proofs.Common.{◌≡◌, ℕ, suc, ◌+◌, ◌-◌, ◌<◌, ◌≤◌, ◌^◌, List, [], ◌∷◌, ◌++◌, length, map, drop, Some, refl, sym, ap, ap₂, ◌∙◌, subst, arith, length-drop}
+use Rattle.std.proofs.{Common.{◌≡◌, ℕ, suc, ◌+◌, ◌-◌, ◌<◌, ◌≤◌, ◌^◌, List, [], ◌∷◌, ◌++◌, length, map, drop, Some, refl, sym, ap, ap₂, ◌∙◌, subst, arith, length-drop}, lemmas.Option.same_Some, lemmas.List.length-map}
 use Rattle.std.specs.Prelude.{slice_get, slice_range, codes, Ok}
-use Rattle.std.proofs.lemmas.Option.{same_Some}
-use Rattle.std.proofs.lemmas.List.{length-map}
 use Rattle.pc_caps.specs.declared.capability.Cap.{Cap}
 use Rattle.pc_caps.specs.declared.capability.Cap.TheVariants as cap
-use Rattle.pc_caps.specs.declared.span.Span.{Span}
-use Rattle.pc_lists.specs.Lists.{Differ, Each, Follow, Text}
-use Rattle.pc_lists.proofs.Cuts.{drop_item}
-use Rattle.pc_lists.proofs.Elements.{differ_none}
-use Rattle.pc_lists.proofs.Gets.{get_map, map_get, get_append, get_drop, get_range}
-use Rattle.pc_lists.proofs.Ranges.{run_within}
-use Rattle.pc_tree.specs.declared.kinds.EntityKind.{EntityKind}
+use Rattle.pc_base.specs.{declared.span.Span.Span, Lists.{Differ, Each, Follow, Text}}
+use Rattle.pc_base.proofs.{Cuts.drop_item, Elements.differ_none, Gets.{get_map, map_get, get_append, get_drop, get_range}, Ranges.run_within}
+use Rattle.pc_tree.specs.{declared.kinds.EntityKind.EntityKind, declared.written_names.Name.Name, Kinds.first_own}
 use Rattle.pc_tree.specs.declared.kinds.EntityKind.TheVariants as kind
-use Rattle.pc_tree.specs.declared.written_names.Name.{Name}
 use Rattle.pc_tree.specs.Tree as t
-use Rattle.pc_core.specs.declared.declarations.EntityDef.{EntityDef}
-use Rattle.pc_core.specs.declared.declarations.FieldInfo.{FieldInfo}
-use Rattle.pc_core.specs.declared.declarations.Method.{Method}
-use Rattle.pc_core.specs.declared.nodes.Node.{Node}
-use Rattle.pc_core.specs.declared.nodes.Slot.{Slot}
-use Rattle.pc_core.specs.CoreData.{CoreData, own_methods}
-use Rattle.pc_core.specs.Entities.{print_method, built_in, built_in_value, out_field}
+use Rattle.pc_core.specs.{declared.declarations.EntityDef.EntityDef, declared.declarations.FieldInfo.FieldInfo, declared.declarations.Method.Method, declared.nodes.Node.Node, declared.nodes.Slot.Slot, CoreData.{CoreData, own_methods}, Entities.{print_method, built_in, built_in_value, out_field}}
 use Rattle.pc_members.specs.Members as words
-use Rattle.pc_members.specs.Members.{built_in_names, entity_names, Member}
-use Rattle.pc_members.specs.Parts.{or_nil}
-use Rattle.pc_members.specs.Founded.{IsFounded}
-use Rattle.pc_members.specs.Edges.{entity_numbers}
-use Rattle.pc_tree.specs.Kinds.{first_own}
-use Rattle.pc_members.specs.MemberLists.{members}
+use Rattle.pc_members.specs.{Members.{built_in_names, entity_names, Member}, Parts.or_nil, Founded.IsFounded, Edges.entity_numbers, MemberLists.members}
 use Rattle.pc_names.specs.Faults.{count_faults, NamesData, Collected}
 use Rattle.pc_file_spec.specs.Cores.{Owned, owned, members_from, texts_of_file, known_of, known_from, default_cap, constructors_from, if_ok, parts_of, core_with, core_of, built_ins, core_field, core_entity, entities_from, Stands}
-use Rattle.pc_file_spec.proofs.Ones.{one_core}
-use Rattle.pc_file_spec.proofs.Tables.{language_kept, texts_differ}
-use Rattle.pc_file_spec.proofs.Owners.{starts, entity_at, methods_run, members_follow, Owner, owner_of}
-use Rattle.pc_file_spec.proofs.Collects.{Collects, collects}
-use Rattle.pc_file_spec.proofs.Parts.{slots_run, nodes_run}
-use Rattle.pc_core_relation.specs.Files.{Match, EntityHasName, constructors_among, seen_entity, MethodStands, FieldStands, EntityStands, IsCoreOf}
-use Rattle.pc_core_relation.specs.Parts.{seen_entities}
-use Rattle.pc_core_relation.specs.Parts.{above_of}
-use Rattle.pc_core_relation.specs.Laws.{StandingCoresAreMade, StandingCoresAreOne}
-use Rattle.pc_core_relation.proofs.Lists.{match_one, range_count}
-use Rattle.pc_core_relation.proofs.Texts.{firsts_are_texts}
-use Rattle.pc_core_relation.proofs.Types.{entity_name, numbers_one}
-use Rattle.pc_core_relation.proofs.Contexts.{Tells, among_same, seen, six}
-use Rattle.pc_core_relation.proofs.Equals.{field_one}
-use Rattle.pc_core_relation.proofs.Walks.{walk}
-use Rattle.pc_core_relation.proofs.Inherited.{members_one}
-use Rattle.pc_core_relation.proofs.Mirror.{ByTables, cap_meant, meant}
-use Rattle.pc_core_relation.proofs.NoFaults.{names_founded, no_counts, no_faults}
+use Rattle.pc_file_spec.proofs.{Ones.one_core, Tables.{language_kept, texts_differ}, Owners.{starts, entity_at, methods_run, members_follow, Owner, owner_of}, Collects.{Collects, collects}, Parts.{slots_run, nodes_run}}
+use Rattle.pc_core_relation.specs.{Files.{Match, EntityHasName, constructors_among, seen_entity, MethodStands, FieldStands, EntityStands, IsCoreOf}, Parts.{seen_entities, above_of}, Laws.{StandingCoresAreMade, StandingCoresAreOne}}
+use Rattle.pc_core_relation.proofs.{Lists.{match_one, range_count}, Texts.firsts_are_texts, Types.{entity_name, numbers_one}, Contexts.{Tells, among_same, seen, six}, Equals.field_one, Walks.walk, Inherited.members_one, Mirror.{ByTables, cap_meant, meant}, NoFaults.{names_founded, no_counts, no_faults}}
 
 -- ---- lists
 

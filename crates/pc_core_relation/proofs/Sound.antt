@@ -1,31 +1,17 @@
 -- If the passes over the names of a file find no fault, its names are right.
-use Rattle.std.proofs.Common.{◌≡◌, zero, suc, ◌||◌, List, [], ◌∷◌, ◌++◌, map, Bool, true, false, not, refl, sym, ◌∙◌, subst, arith, append-nil, if◌then◌else◌}
-use Rattle.std.specs.Prelude.{codes}
-use Rattle.std.specs.Str.{bytes_eq}
-use Rattle.std.proofs.lemmas.Option.{same_Some, none-some}
-use Rattle.std.proofs.lemmas.List.{append_assoc}
-use Rattle.pc_lists.specs.Lists.{Has, Differ, Text}
-use Rattle.pc_lists.proofs.Cuts.{nil_left, nil_right}
-use Rattle.pc_lists.proofs.Elements.{differ_none}
-use Rattle.pc_lists.proofs.Gets.{get_front}
-use Rattle.pc_tree.specs.declared.file.ParamDef.{ParamDef}
-use Rattle.pc_tree.specs.declared.written_names.Name.{Name}
+use Rattle.std.proofs.{Common.{◌≡◌, zero, suc, ◌||◌, List, [], ◌∷◌, ◌++◌, map, Bool, true, false, not, refl, sym, ◌∙◌, subst, arith, append-nil, if◌then◌else◌}, lemmas.Option.{same_Some, none-some}, lemmas.List.append_assoc}
+use Rattle.std.specs.{Prelude.codes, Str.bytes_eq}
+use Rattle.pc_base.specs.Lists.{Has, Differ, Text}
+use Rattle.pc_base.proofs.{Cuts.{nil_left, nil_right}, Elements.differ_none, Gets.get_front}
+use Rattle.pc_tree.specs.{declared.file.ParamDef.ParamDef, declared.written_names.Name.Name}
 use Rattle.pc_tree.specs.Tree as t
-use Rattle.pc_names.specs.declared.fault.NameFault.{NameFault}
+use Rattle.pc_names.specs.{declared.fault.NameFault.NameFault, Faults.{either_fault, type_faults, provided_faults, field_faults, param_faults, signature_faults, method_faults, added_faults, entity_faults, entity_name_faults, declaration_faults, main_faults, NamesData, Collected}, Parts.{where_, entities_faults}, Mains.is_main}
 use Rattle.pc_names.specs.declared.fault.NameFault.TheVariants as fault
-use Rattle.pc_members.specs.MemberLists.{is_among, trait_names}
-use Rattle.pc_members.specs.Members.{built_in_names, entity_names, field_texts, method_texts, has_added, own_texts}
-use Rattle.pc_members.specs.Parts.{added_text}
-use Rattle.pc_members.proofs.Completed.{among_parts}
-use Rattle.pc_members.proofs.Differences.{differ_push, equal_texts}
-use Rattle.pc_members.proofs.Named.{is_trait_named}
-use Rattle.pc_names.specs.Faults.{either_fault, type_faults, provided_faults, field_faults, param_faults, signature_faults, method_faults, added_faults, entity_faults, entity_name_faults, declaration_faults, main_faults, NamesData, Collected}
-use Rattle.pc_names.specs.Parts.{where_, entities_faults}
-use Rattle.pc_names.specs.Mains.{is_main}
+use Rattle.pc_members.specs.{MemberLists.{is_among, trait_names}, Members.{built_in_names, entity_names, field_texts, method_texts, has_added, own_texts}, Parts.added_text}
+use Rattle.pc_members.proofs.{Completed.among_parts, Differences.{differ_push, equal_texts}, Named.is_trait_named}
 use Rattle.pc_names.proofs.Founded.{where_none, either_none, Adds, adds_differ, collected_founded}
 use Rattle.pc_file_spec.proofs.Collects.{Sound, Collects, collects}
-use Rattle.pc_core_relation.specs.Files.{SignatureIsRight, DeclarationsAreRight, NamesAreRight}
-use Rattle.pc_core_relation.specs.Parts.{param_texts}
+use Rattle.pc_core_relation.specs.{Files.{SignatureIsRight, DeclarationsAreRight, NamesAreRight}, Parts.param_texts}
 
 -- ---- names in an `is` list, and of parameters
 

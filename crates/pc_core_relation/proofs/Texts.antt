@@ -1,21 +1,15 @@
 -- A list of texts, each at its first appearance.
-use Rattle.std.proofs.Common.{◌≡◌, ◌<◌, List, [], ◌∷◌, ◌++◌, Bool, true, false, refl, sym, ap, ◌∙◌, subst, arith, if◌then◌else◌, inl, inr, append_assoc, append-nil}
+use Rattle.std.proofs.{Common.{◌≡◌, ◌<◌, List, [], ◌∷◌, ◌++◌, Bool, true, false, refl, sym, ap, ◌∙◌, subst, arith, if◌then◌else◌, inl, inr, append_assoc, append-nil}, lemmas.Option.none-some}
 use Rattle.std.specs.Prelude.{codes}
-use Rattle.std.proofs.lemmas.Option.{none-some}
-use Rattle.pc_lists.specs.Lists.{Has, Text}
-use Rattle.pc_lists.proofs.Bools.{true_false}
-use Rattle.pc_lists.proofs.Elements.{has_front, has_behind, has_either}
-use Rattle.pc_lists.proofs.Gets.{get_below, get_front, get_push, append_get}
+use Rattle.pc_base.specs.Lists.{Has, Text}
+use Rattle.pc_base.proofs.{Bools.true_false, Elements.{has_front, has_behind, has_either}, Gets.{get_below, get_front, get_push, append_get}}
 use Rattle.pc_tree.specs.Tree as t
-use Rattle.pc_members.specs.MemberLists.{is_among, with_name, with_names}
-use Rattle.pc_members.specs.Members.{field_texts, method_texts}
-use Rattle.pc_members.proofs.Tables.{names_in_parts}
-use Rattle.pc_members.proofs.Differences.{among_has, has_among}
+use Rattle.pc_members.specs.{MemberLists.{is_among, with_name, with_names}, Members.{field_texts, method_texts}}
+use Rattle.pc_members.proofs.{Tables.names_in_parts, Differences.{among_has, has_among}}
 use Rattle.pc_names.specs.Faults.{with_members}
 use Rattle.pc_body_spec.specs.Slots.{entities_texts}
 use Rattle.pc_file_spec.specs.Cores.{texts_of_file}
-use Rattle.pc_core_relation.specs.Files.{needed_texts, AppearsBefore, AreFirsts}
-use Rattle.pc_core_relation.specs.Parts.{declared_texts}
+use Rattle.pc_core_relation.specs.{Files.{needed_texts, AppearsBefore, AreFirsts}, Parts.declared_texts}
 use Rattle.pc_core_relation.proofs.Lists.{only_one, one_order}
 
 -- ---- a list that grows

@@ -1,25 +1,17 @@
 -- The type found by a name among the entities of a core is the one that it means.
-use Rattle.std.proofs.Common.{◌≡◌, ℕ, zero, suc, ◌+◌, List, [], ◌∷◌, ◌++◌, map, Some, Bool, true, false, refl, sym, ap, ap₂, ◌∙◌, subst, arith, if◌then◌else◌}
-use Rattle.std.specs.Prelude.{slice_get, position, option_to_list}
-use Rattle.std.specs.Str.{bytes_eq}
-use Rattle.std.proofs.lemmas.Option.{same_Some, none-some}
+use Rattle.std.proofs.{Common.{◌≡◌, ℕ, zero, suc, ◌+◌, List, [], ◌∷◌, ◌++◌, map, Some, Bool, true, false, refl, sym, ap, ap₂, ◌∙◌, subst, arith, if◌then◌else◌}, lemmas.Option.{same_Some, none-some}}
+use Rattle.std.specs.{Prelude.{slice_get, position, option_to_list}, Str.bytes_eq}
 use Rattle.pc_caps.specs.declared.capability.Cap.{Cap}
-use Rattle.pc_lists.specs.Lists.{Has, Differ, Text}
-use Rattle.pc_lists.proofs.Bools.{true_false}
-use Rattle.pc_lists.proofs.Gets.{get_map, map_get}
-use Rattle.pc_tree.specs.declared.written_names.Name.{Name}
-use Rattle.pc_tree.specs.declared.written_names.TypeRef.{TypeRef}
-use Rattle.pc_core.specs.declared.declarations.EntityDef.{EntityDef}
-use Rattle.pc_core.specs.CoreData.{CoreData}
+use Rattle.pc_base.specs.Lists.{Has, Differ, Text}
+use Rattle.pc_base.proofs.{Bools.true_false, Gets.{get_map, map_get}}
+use Rattle.pc_tree.specs.{declared.written_names.Name.Name, declared.written_names.TypeRef.TypeRef}
+use Rattle.pc_core.specs.{declared.declarations.EntityDef.EntityDef, CoreData.CoreData}
 use Rattle.pc_members.specs.Edges.{entity_numbers}
-use Rattle.pc_body_spec.specs.Bodies.{KnownEntity}
-use Rattle.pc_body_spec.specs.Parts.{cap_or}
-use Rattle.pc_body_spec.specs.Fold.{type_of_name}
+use Rattle.pc_body_spec.specs.{Bodies.KnownEntity, Parts.cap_or, Fold.type_of_name}
 use Rattle.pc_file_spec.specs.Cores.{or_value, type_in}
 use Rattle.pc_file_spec.proofs.Aboves.{get_position}
 use Rattle.pc_members.proofs.Differences.{equal_texts, same_text}
-use Rattle.pc_core_relation.specs.Files.{Match, IsType, seen_entity}
-use Rattle.pc_core_relation.specs.Parts.{seen_entities}
+use Rattle.pc_core_relation.specs.{Files.{Match, IsType, seen_entity}, Parts.seen_entities}
 use Rattle.pc_core_relation.proofs.Lists.{match_none, match_cons, match_rest}
 
 -- ---- what is found

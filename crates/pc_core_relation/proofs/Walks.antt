@@ -1,39 +1,18 @@
 -- The methods that represent the members of a file are those computed from them one by one.
-use Rattle.std.proofs.Common.{◌≡◌, ℕ, suc, ◌+◌, ◌-◌, ◌≤◌, List, [], ◌∷◌, ◌++◌, length, map, take, Option, Some, None, refl, sym, ap, ap₂, ◌∙◌, subst, arith, append_assoc, append-nil, length-append}
+use Rattle.std.proofs.{Common.{◌≡◌, ℕ, suc, ◌+◌, ◌-◌, ◌≤◌, List, [], ◌∷◌, ◌++◌, length, map, take, Option, Some, None, refl, sym, ap, ap₂, ◌∙◌, subst, arith, append_assoc, append-nil, length-append}, lemmas.Option.slice_get_past}
 use Rattle.std.specs.Prelude.{slice_get, slice_range, Ok}
-use Rattle.std.proofs.lemmas.Option.{slice_get_past}
-use Rattle.pc_caps.specs.declared.span.Span.{Span}
-use Rattle.pc_caps.specs.declared.capability.Cap.{Cap}
-use Rattle.pc_caps.specs.declared.capability.Form.{Form}
-use Rattle.pc_lists.specs.Lists.{Differ, Follow}
-use Rattle.pc_lists.proofs.Cuts.{take_whole}
-use Rattle.pc_lists.proofs.Ranges.{run_within}
+use Rattle.pc_base.specs.{declared.span.Span.Span, Lists.{Differ, Follow}, Limits.node_limit}
+use Rattle.pc_caps.specs.{declared.capability.Cap.Cap, declared.capability.Form.Form}
+use Rattle.pc_base.proofs.{Cuts.take_whole, Ranges.run_within}
 use Rattle.pc_tree.specs.Tree as t
-use Rattle.pc_core.specs.declared.declarations.Method.{Method}
-use Rattle.pc_core.specs.declared.declarations.MethodKind.{MethodKind}
-use Rattle.pc_core.specs.declared.declarations.ParamInfo.{ParamInfo}
-use Rattle.pc_core.specs.declared.nodes.Node.{Node}
-use Rattle.pc_core.specs.declared.nodes.Slot.{Slot}
+use Rattle.pc_core.specs.{declared.declarations.Method.Method, declared.declarations.MethodKind.MethodKind, declared.declarations.ParamInfo.ParamInfo, declared.nodes.Node.Node, declared.nodes.Slot.Slot, CoreData.{CoreData, own_slots, node_end}, Entities.{param_slot, this_slot}}
 use Rattle.pc_core.specs.declared.nodes.SlotKind.TheVariants as slot
-use Rattle.pc_core.specs.CoreData.{CoreData, own_slots, node_end}
-use Rattle.pc_core.specs.Entities.{param_slot, this_slot}
-use Rattle.pc_members.specs.Members.{Member, written, added, member_text}
-use Rattle.pc_members.specs.MemberLists.{member_span, members}
-use Rattle.pc_body_spec.specs.Bodies.{Rose, Context, KnownEntity, text_from}
-use Rattle.pc_body_spec.specs.Fold.{put, local_slot}
-use Rattle.pc_caps.specs.Limits.{node_limit}
-use Rattle.pc_body_spec.specs.Methods.{unless_fault, unless_name, unless_full, numbered_or_full, put_body}
+use Rattle.pc_members.specs.{Members.{Member, written, added, member_text}, MemberLists.{member_span, members}}
+use Rattle.pc_body_spec.specs.{Bodies.{Rose, Context, KnownEntity, text_from}, Fold.{put, local_slot}, Methods.{unless_fault, unless_name, unless_full, numbered_or_full, put_body}}
 use Rattle.pc_file_spec.specs.Cores.{Owned, texts_of_file, known_of, context_of, slots_from, member_locals, params_of, own_this, kind_of, receiver_cap, result_of, declared, Parts, outcome, with_outcome, and_member, and_members, if_ok}
-use Rattle.pc_file_spec.proofs.Steps.{member_rose, member_faults, member_names, slots_count}
-use Rattle.pc_file_spec.proofs.Parts.{slots_run, nodes_run}
-use Rattle.pc_core_relation.specs.Files.{LocalStands, BodyIs}
-use Rattle.pc_core_relation.specs.Parts.{seen_entities}
-use Rattle.pc_core_relation.proofs.Lists.{match_one, range_count, take_count, take_run}
-use Rattle.pc_core_relation.proofs.Numbers.{what_is_numbered_is_put, numbered_from}
-use Rattle.pc_core_relation.proofs.Types.{entity_name}
-use Rattle.pc_core_relation.proofs.Equals.{text_one, params_one, result_one, local_one}
-use Rattle.pc_core_relation.proofs.Members.{rose_same, faults_same}
-use Rattle.pc_core_relation.proofs.Mirror.{rose_of, faults_in, owned_context, ByTables}
+use Rattle.pc_file_spec.proofs.{Steps.{member_rose, member_faults, member_names, slots_count}, Parts.{slots_run, nodes_run}}
+use Rattle.pc_core_relation.specs.{Files.{LocalStands, BodyIs}, Parts.seen_entities}
+use Rattle.pc_core_relation.proofs.{Lists.{match_one, range_count, take_count, take_run}, Numbers.{what_is_numbered_is_put, numbered_from}, Types.entity_name, Equals.{text_one, params_one, result_one, local_one}, Members.{rose_same, faults_same}, Mirror.{rose_of, faults_in, owned_context, ByTables}}
 
 -- ---- the outcome of a member without a fault
 

@@ -1,13 +1,12 @@
 -- Laws of the definitions.
 use Rattle.std.specs.Prelude.{◌≡◌, ◌⊎◌, ◌↔◌, ℕ, ◌+◌, ◌<◌, ◌≤◌, ◌^◌, List, length, take, Some}
-use Rattle.pc_lists.specs.Lists.{Has}
+use Rattle.pc_base.specs.{Lists.Has, Limits.node_limit}
 use Rattle.pc_core.specs.{declared.nodes.Node.Node, CoreData.CoreData}
 use Rattle.pc_members.specs.{Members.Member, MemberLists.members}
-use Rattle.pc_names.specs.{declared.fault.NameFault.NameFault, Faults.NamesData, Faults.Collected}
+use Rattle.pc_names.specs.{declared.fault.NameFault.NameFault, Faults.{NamesData, Collected}}
 use Rattle.pc_body_spec.specs.{Bodies.Rose, Fold.put}
-use Rattle.pc_caps.specs.Limits.{node_limit}
 use Rattle.pc_file_spec.specs.Cores.{texts_of_file, Stands, IsElabFault}
-use Rattle.pc_core_relation.specs.{Files.HasMembers, Files.IsCoreOf, MemberFaults.IsMemberFault, Files.IsNumbered}
+use Rattle.pc_core_relation.specs.{Files.{HasMembers, IsCoreOf, IsNumbered}, MemberFaults.IsMemberFault}
 use Rattle.pc_tree.specs.Tree as t
 
 -- A rose appended to some nodes is numbered there from their count on, and its own node is the last.

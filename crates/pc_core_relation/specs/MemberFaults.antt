@@ -1,12 +1,10 @@
 -- The first fault of a file's members: of their bodies, their slots and their nodes.
-use Rattle.std.specs.Prelude.{◌≡◌, ◌≤◌, ℕ, suc, ◌+◌, ◌-◌, List, [], ◌∷◌, ◌++◌, map, filter, flat_map, drop, length, Some, None, slice_get, nat_lt, codes}
-use Rattle.std.specs.Option.{option_map_or}
-use Rattle.pc_caps.specs.{Limits.method_limit, Limits.node_limit, Limits.slot_limit}
-use Rattle.pc_lists.specs.Lists.{Has, Text, one_if}
+use Rattle.std.specs.{Prelude.{◌≡◌, ◌≤◌, ℕ, suc, ◌+◌, ◌-◌, List, [], ◌∷◌, ◌++◌, map, filter, flat_map, drop, length, Some, None, slice_get, nat_lt, codes}, Option.option_map_or}
+use Rattle.pc_base.specs.{Limits.{method_limit, node_limit, slot_limit}, Lists.{Has, Text, one_if}}
 use Rattle.pc_tree.specs.{declared.file.ParamDef.ParamDef, declared.kinds.EntityKind.EntityKind, declared.written_names.Name.Name}
-use Rattle.pc_members.specs.{Members.Member, Members.written, Members.added, Members.member_text, Members.field_texts, Members.built_in_names, MemberLists.is_constructor}
+use Rattle.pc_members.specs.{Members.{Member, written, added, member_text, field_texts, built_in_names}, MemberLists.is_constructor}
 use Rattle.pc_names.specs.declared.fault.NameFault.{NameFault}
-use Rattle.pc_body_spec.specs.{Bodies.Context, Bodies.KnownEntity, Bodies.Rose, Bodies.rose, Bodies.Roses, Bodies.no_roses, Bodies.more, Bodies.body_of, Slots.Local, Slots.method_locals, Faults.BodyNameFault, Faults.unknown, Faults.double, Faults.long_text, Faults.body_faults}
+use Rattle.pc_body_spec.specs.{Bodies.{Context, KnownEntity, Rose, rose, Roses, no_roses, more, body_of}, Slots.{Local, method_locals}, Faults.{BodyNameFault, unknown, double, long_text, body_faults}}
 use Rattle.pc_core_relation.specs.Files.{NamesAreRight, HasMembers}
 use Rattle.pc_tree.specs.Tree as t
 use Rattle.pc_caps.specs.declared.capability.Cap.TheVariants as cap

@@ -1,5 +1,5 @@
 //! The names of files: their numbers, what is above them, and what no text spells.
-use pc_caps::{List, ShortBytes};
+use pc_base::{List, ShortBytes};
 use pc_names::{NameFault, Names, collect};
 use pc_test_inputs::{Wrong, core_of, tree_of};
 use pc_tree::{Entity, File};

@@ -1,9 +1,5 @@
 -- The digits of a number, one by one.
-use Rattle.std.proofs.Common.{◌≡◌, ℕ, zero, suc, ◌+◌, ◌*◌, ◌/◌, ◌%◌, ◌^◌, ◌<◌, ◌≤◌, Bool, true, false, cond, ◌==◌, List, [], ◌∷◌, ◌++◌, refl, sym, ap, subst, ◌∙◌, arith, append_assoc}
-use Rattle.std.proofs.lemmas.Bool.{eq-eqb, eqb-true, eqb-false}
-use Rattle.std.proofs.lemmas.List.{append-nil}
-use Rattle.std.proofs.Math.Nat.{pow-succ'}
-use Rattle.std.proofs.lemmas.Fmt.{decimal_step, decimal_digit, hex_one_digit}
+use Rattle.std.proofs.{Common.{◌≡◌, ℕ, zero, suc, ◌+◌, ◌*◌, ◌/◌, ◌%◌, ◌^◌, ◌<◌, ◌≤◌, Bool, true, false, cond, ◌==◌, List, [], ◌∷◌, ◌++◌, refl, sym, ap, subst, ◌∙◌, arith, append_assoc}, lemmas.Bool.{eq-eqb, eqb-true, eqb-false}, lemmas.List.append-nil, Math.Nat.pow-succ', lemmas.Fmt.{decimal_step, decimal_digit, hex_one_digit}}
 use Rattle.std.specs.Fmt.{digit_glyph, digits_onto, digits, decimal}
 
 -- ---- hex

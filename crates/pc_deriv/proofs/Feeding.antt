@@ -1,14 +1,8 @@
 -- Bytes that are taken one by one, whatever the pieces are.
-use Rattle.std.proofs.Common.{◌≡◌, ◌≢◌, ℕ, zero, suc, ◌+◌, ◌-◌, ◌<◌, ◌≤◌, Bool, true, false, cond, ◌==◌, List, [], ◌∷◌, ◌++◌, Option, Some, None, Ok, Err, length, take, drop, get_or, refl, sym, ap, ap₂, ◌∙◌, subst, arith, length-drop}
+use Rattle.std.proofs.{Common.{◌≡◌, ◌≢◌, ℕ, zero, suc, ◌+◌, ◌-◌, ◌<◌, ◌≤◌, Bool, true, false, cond, ◌==◌, List, [], ◌∷◌, ◌++◌, Option, Some, None, Ok, Err, length, take, drop, get_or, refl, sym, ap, ap₂, ◌∙◌, subst, arith, length-drop}, lemmas.Bool.{true≢false, eqb-true, eq-eqb}, lemmas.Slice.between_to_end, lemmas.List.take-append-drop}
 use Rattle.std.specs.Prelude.{Result, slice_range}
-use Rattle.std.proofs.lemmas.Bool.{true≢false, eqb-true, eq-eqb}
-use Rattle.std.proofs.lemmas.Slice.{between_to_end}
-use Rattle.std.proofs.lemmas.List.{take-append-drop}
-use Rattle.pc_deriv.specs.declared.line.Line.{Line}
-use Rattle.pc_deriv.specs.declared.line.LineFault.{LineFault}
+use Rattle.pc_deriv.specs.{declared.line.Line.Line, declared.line.LineFault.LineFault, Lines.{Taken, line_meaning, behind, answered, with_line_byte, went_on, took_at, took, with_first_line, fed, longest_line}, Pieces.{NoEnd, IsNext}}
 use Rattle.pc_deriv.specs.declared.line.LineFault.TheVariants as fault
-use Rattle.pc_deriv.specs.Lines.{Taken, line_meaning, behind, answered, with_line_byte, went_on, took_at, took, with_first_line, fed, longest_line}
-use Rattle.pc_deriv.specs.Pieces.{NoEnd, IsNext}
 
 abbrev Answer : Type 0
 Answer = Result (Option Line) LineFault

@@ -1,12 +1,8 @@
 -- What was written is well-formed.
-use Rattle.std.proofs.Common.{◌≡◌, ℕ, ◌+◌, ◌<◌, suc, zero, List, [], ◌∷◌, ◌++◌, Ok, Err, length, get_or, take, drop, sym, ap, ◌∙◌, subst, arith, append_assoc}
-use Rattle.std.specs.Prelude.{Result, IfOk}
-use Rattle.std.specs.List.{AllByRecursion}
-use Rattle.std.proofs.lemmas.List.{drop_more}
+use Rattle.std.proofs.{Common.{◌≡◌, ℕ, ◌+◌, ◌<◌, suc, zero, List, [], ◌∷◌, ◌++◌, Ok, Err, length, get_or, take, drop, sym, ap, ◌∙◌, subst, arith, append_assoc}, lemmas.List.drop_more}
+use Rattle.std.specs.{Prelude.{Result, IfOk}, List.AllByRecursion}
 use Rattle.pc_ann.specs.declared.annotation.Ann.{Ann}
-use Rattle.pc_deriv.specs.declared.version.Version.{Version}
-use Rattle.pc_deriv.specs.Text.{deriv_text, SlotFits, NoteFits, Within, IsText}
-use Rattle.pc_deriv.specs.Parts.{each_line}
+use Rattle.pc_deriv.specs.{declared.version.Version.Version, Text.{deriv_text, SlotFits, NoteFits, Within, IsText}, Parts.each_line}
 
 module _ {A : Type 0} where
   -- one more thing that fits

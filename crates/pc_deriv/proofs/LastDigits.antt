@@ -1,9 +1,6 @@
 -- A number whose last digits are in a buffer.
-use Rattle.std.proofs.Common.{◌≡◌, ℕ, zero, suc, ◌+◌, ◌-◌, ◌*◌, ◌/◌, ◌%◌, ◌^◌, ◌<◌, ◌≤◌, false, List, [], ◌∷◌, ◌++◌, length, take, drop, set, sym, ap, ◌∙◌, subst, arith, append_assoc, append-nil}
+use Rattle.std.proofs.{Common.{◌≡◌, ℕ, zero, suc, ◌+◌, ◌-◌, ◌*◌, ◌/◌, ◌%◌, ◌^◌, ◌<◌, ◌≤◌, false, List, [], ◌∷◌, ◌++◌, length, take, drop, set, sym, ap, ◌∙◌, subst, arith, append_assoc, append-nil}, lemmas.List.{drop-set, drop_all, take_rest}, Math.Nat.pow-succ', lemmas.Fmt.{decimal_step, decimal_digit, hex_one_digit}}
 use Rattle.std.specs.Fmt.{digit_glyph, digits, decimal}
-use Rattle.std.proofs.lemmas.List.{drop-set, drop_all, take_rest}
-use Rattle.std.proofs.Math.Nat.{pow-succ'}
-use Rattle.std.proofs.lemmas.Fmt.{decimal_step, decimal_digit, hex_one_digit}
 use Rattle.pc_deriv.proofs.Digits.{hex_step}
 
 -- no digit is in the buffer yet

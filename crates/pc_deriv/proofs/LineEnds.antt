@@ -1,32 +1,17 @@
 -- A line's only line end is its last byte, and no line is longer than the buffer.
-use Rattle.std.proofs.Common.{◌≡◌, ◌≢◌, ℕ, zero, suc, ◌+◌, ◌/◌, ◌%◌, ◌^◌, ◌<◌, ◌≤◌, Bool, true, false, cond, ◌&&◌, ◌==◌, List, [], ◌∷◌, ◌++◌, Option, Some, None, length, drop, get_or, refl, sym, ap, ap₂, ◌∙◌, subst, inl, inr, arith, append_assoc, append-nil, length-append}
-use Rattle.std.specs.Prelude.{codes, decimal, nat_le}
-use Rattle.std.specs.Fmt.{digit_glyph, digits}
-use Rattle.std.proofs.lemmas.Bool.{and_parts, true≢false, cases_lt}
-use Rattle.std.proofs.lemmas.Bool.Decides.{nat_tests}
-use Rattle.std.proofs.lemmas.Fmt.{decimal_by_steps, length-decimal-le}
-use Rattle.pc_caps.specs.declared.capability.Cap.{Cap}
+use Rattle.std.proofs.{Common.{◌≡◌, ◌≢◌, ℕ, zero, suc, ◌+◌, ◌/◌, ◌%◌, ◌^◌, ◌<◌, ◌≤◌, Bool, true, false, cond, ◌&&◌, ◌==◌, List, [], ◌∷◌, ◌++◌, Option, Some, None, length, drop, get_or, refl, sym, ap, ap₂, ◌∙◌, subst, inl, inr, arith, append_assoc, append-nil, length-append}, lemmas.Bool.{and_parts, true≢false, cases_lt}, lemmas.Bool.Decides.nat_tests, lemmas.Fmt.{decimal_by_steps, length-decimal-le}}
+use Rattle.std.specs.{Prelude.{codes, decimal, nat_le}, Fmt.{digit_glyph, digits}}
+use Rattle.pc_caps.specs.{declared.capability.Cap.Cap, declared.capability.Form.Form, Words.{cap_name, form_name}}
 use Rattle.pc_caps.specs.declared.capability.Cap.TheVariants as cap
-use Rattle.pc_caps.specs.declared.capability.Form.{Form}
 use Rattle.pc_caps.specs.declared.capability.Form.TheVariants as form
 use Rattle.pc_masks.specs.declared.mask.Mask.{Mask}
-use Rattle.pc_ann.specs.declared.annotation.Rule.{Rule}
+use Rattle.pc_ann.specs.{declared.annotation.Rule.Rule, declared.annotation.Note.Note}
 use Rattle.pc_ann.specs.declared.annotation.Rule.TheVariants as rule
-use Rattle.pc_ann.specs.declared.annotation.Note.{Note}
-use Rattle.pc_deriv.specs.declared.version.Version.{Version}
+use Rattle.pc_deriv.specs.{declared.version.Version.Version, Text.{version_name, rule_name, slot_line, type_text, mask_text, shown_after, masks_text, note_line, SlotFits, TypeFits, MaskFits, NoteFits, NoLine}, Parts.blank, Reading.digit_of, Lines.longest_line, Pieces.NoEnd}
 use Rattle.pc_deriv.specs.declared.version.Version.TheVariants as version
-use Rattle.pc_deriv.specs.Text.{version_name, rule_name, cap_name, form_name, slot_line, type_text, mask_text, shown_after, masks_text, note_line, SlotFits, TypeFits, MaskFits, NoteFits, NoLine}
-use Rattle.pc_deriv.specs.Parts.{blank}
-use Rattle.pc_lists.specs.Lists.{line_end}
-use Rattle.pc_deriv.specs.Reading.{digit_of}
-use Rattle.pc_deriv.specs.Lines.{longest_line}
-use Rattle.pc_deriv.specs.Pieces.{NoEnd}
-use Rattle.pc_lists.proofs.Options.{none_some}
-use Rattle.pc_deriv.proofs.Digits.{sixteen, hex_step}
-use Rattle.pc_deriv.proofs.NumberReading.{digit_own}
-use Rattle.pc_deriv.proofs.Shown.{shown_fits}
-use Rattle.pc_deriv.proofs.LineReading.{Reads, head_text, HeadFits}
-use Rattle.pc_deriv.proofs.Feeding.{no_end_app}
+use Rattle.pc_base.specs.Lists.{line_end}
+use Rattle.pc_base.proofs.Options.{none_some}
+use Rattle.pc_deriv.proofs.{Digits.{sixteen, hex_step}, NumberReading.digit_own, Shown.shown_fits, LineReading.{Reads, head_text, HeadFits}, Feeding.no_end_app}
 
 -- ---- parts of a line
 

@@ -1,21 +1,13 @@
 -- A line is read if it is there, and only then.
-use Rattle.std.proofs.Common.{◌≡◌, ℕ, ◌-◌, ◌^◌, ◌<◌, List, ◌∷◌, ◌++◌, Option, Some, None, refl, sym, ap, ◌∙◌, subst, arith, append_assoc}
+use Rattle.std.proofs.{Common.{◌≡◌, ℕ, ◌-◌, ◌^◌, ◌<◌, List, ◌∷◌, ◌++◌, Option, Some, None, refl, sym, ap, ◌∙◌, subst, arith, append_assoc}, lemmas.Option.same_Some}
 use Rattle.std.specs.Prelude.{codes, decimal, ⊤}
-use Rattle.pc_caps.specs.declared.capability.Cap.{Cap}
-use Rattle.pc_caps.specs.declared.capability.Form.{Form}
+use Rattle.pc_caps.specs.{declared.capability.Cap.Cap, declared.capability.Form.Form, Words.{cap_name, form_name}}
 use Rattle.pc_masks.specs.declared.mask.Mask.{Mask}
-use Rattle.pc_ann.specs.declared.annotation.Rule.{Rule}
-use Rattle.pc_ann.specs.declared.annotation.Note.{Note}
-use Rattle.pc_deriv.specs.declared.version.Version.{Version}
-use Rattle.pc_deriv.specs.Text.{version_name, rule_name, cap_name, form_name, head_line, slot_line, type_text, mask_text, shown_after, note_line, CountsFit, SlotFits, TypeFits, MaskFits, NoteFits}
-use Rattle.pc_lists.specs.Lists.{line_end, ◌>>=◌}
-use Rattle.pc_deriv.specs.Reading.{digit_of, after_bytes, or_else, beside, version_at, rule_at, cap_at, form_at, number_at, decimal_at, mask_at, head_at, read_slot, some_type_at, read_type_or_none, masks_at, note_at}
-use Rattle.pc_deriv.proofs.Digits.{ten, sixteen}
-use Rattle.pc_deriv.proofs.NumberReading.{bind_own, number_sound, number_own}
-use Rattle.std.proofs.lemmas.Option.{same_Some}
-use Rattle.pc_lists.proofs.Options.{none_some, bind_some}
-use Rattle.pc_deriv.proofs.Shown.{shown_twice, shown_fits}
-use Rattle.pc_deriv.proofs.NameReading.{after_sound, after_own, version_sound, version_own, rule_sound, rule_own, cap_sound, cap_own, form_sound, form_own}
+use Rattle.pc_ann.specs.{declared.annotation.Rule.Rule, declared.annotation.Note.Note}
+use Rattle.pc_deriv.specs.{declared.version.Version.Version, Text.{version_name, rule_name, head_line, slot_line, type_text, mask_text, shown_after, note_line, CountsFit, SlotFits, TypeFits, MaskFits, NoteFits}, Reading.{digit_of, after_bytes, or_else, beside, version_at, rule_at, cap_at, form_at, number_at, decimal_at, mask_at, head_at, read_slot, some_type_at, read_type_or_none, masks_at, note_at}}
+use Rattle.pc_base.specs.Lists.{line_end, ◌>>=◌}
+use Rattle.pc_deriv.proofs.{Digits.{ten, sixteen}, NumberReading.{bind_own, number_sound, number_own}, Shown.{shown_twice, shown_fits}, NameReading.{after_sound, after_own, version_sound, version_own, rule_sound, rule_own, cap_sound, cap_own, form_sound, form_own}}
+use Rattle.pc_base.proofs.Options.{none_some, bind_some}
 
 -- What is read from the start of a text is there, and what is there is read.
 pub record Reads {A : Type 0} (read : List ℕ → Option (A × List ℕ)) (text : A → List ℕ → List ℕ) (Fits : A → Type 0) : Type 0 where

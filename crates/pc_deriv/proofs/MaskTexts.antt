@@ -1,9 +1,7 @@
 -- Nodes with the same masks have the same text for them.
-use Rattle.std.proofs.Common.{◌≡◌, ℕ, List, Some, refl, ap, ◌∙◌}
-use Rattle.std.proofs.lemmas.Option.{same_Some}
+use Rattle.std.proofs.{Common.{◌≡◌, ℕ, List, Some, refl, ap, ◌∙◌}, lemmas.Option.same_Some}
 use Rattle.pc_ann.specs.declared.annotation.Note.{Note}
-use Rattle.pc_deriv.specs.declared.version.Version.{Version}
-use Rattle.pc_deriv.specs.Text.{masks_text}
+use Rattle.pc_deriv.specs.{declared.version.Version.Version, Text.masks_text}
 
 pub same_masks : (version : Version) (note other : Note) → (note.live_before ≡ other.live_before) × (note.set_before ≡ other.set_before) × (note.live_after ≡ other.live_after) × (note.set_after ≡ other.set_after)
     → masks_text version note ≡ masks_text version other

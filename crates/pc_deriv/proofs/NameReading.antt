@@ -1,22 +1,14 @@
 -- A name is read if it is there with its end, and only then.
-use Rattle.std.proofs.Common.{◌≡◌, ℕ, Bool, true, false, cond, List, [], ◌∷◌, ◌++◌, Option, Some, None, length, drop, refl, sym, ap, ap₂, ◌∙◌}
-use Rattle.std.specs.Prelude.{nat_eq}
-use Rattle.std.specs.List.{starts_with}
-use Rattle.std.proofs.lemmas.Bool.{and_parts, true≢false, eqb-true}
-use Rattle.pc_caps.specs.declared.capability.Cap.{Cap}
+use Rattle.std.proofs.{Common.{◌≡◌, ℕ, Bool, true, false, cond, List, [], ◌∷◌, ◌++◌, Option, Some, None, length, drop, refl, sym, ap, ap₂, ◌∙◌}, lemmas.Bool.{and_parts, true≢false, eqb-true}, lemmas.Option.same_Some}
+use Rattle.std.specs.{Prelude.nat_eq, List.starts_with}
+use Rattle.pc_caps.specs.{declared.capability.Cap.Cap, declared.capability.Form.Form, Words.{cap_name, form_name}}
 use Rattle.pc_caps.specs.declared.capability.Cap.TheVariants as cap
-use Rattle.pc_caps.specs.declared.capability.Form.{Form}
 use Rattle.pc_caps.specs.declared.capability.Form.TheVariants as form
 use Rattle.pc_ann.specs.declared.annotation.Rule.{Rule}
 use Rattle.pc_ann.specs.declared.annotation.Rule.TheVariants as rule
-use Rattle.pc_deriv.specs.declared.vocabulary.TheConstants.{VERSIONS, RULES, CAPS, FORMS}
-use Rattle.pc_deriv.specs.declared.version.Version.{Version}
+use Rattle.pc_deriv.specs.{declared.vocabulary.TheConstants.{VERSIONS, RULES, CAPS, FORMS}, declared.version.Version.Version, Text.{version_name, rule_name}, Reading.{after_bytes, after_word, or_else, beside, read_named, version_at, rule_at, cap_at, form_at}}
 use Rattle.pc_deriv.specs.declared.version.Version.TheVariants as version
-use Rattle.pc_deriv.specs.Text.{version_name, rule_name, cap_name, form_name}
-use Rattle.pc_deriv.specs.Reading.{after_bytes, after_word, or_else, beside, read_named, version_at, rule_at, cap_at, form_at}
-use Rattle.std.proofs.lemmas.Option.{same_Some}
-use Rattle.pc_lists.proofs.Options.{none_some, bind_some}
-use Rattle.pc_lists.proofs.Prefixes.{begins_own}
+use Rattle.pc_base.proofs.{Options.{none_some, bind_some}, Prefixes.begins_own}
 
 begins_cut : (text word : List ℕ) → starts_with nat_eq text word ≡ true → text ≡ word ++ drop (length word) text
 begins_cut text [] e = refl

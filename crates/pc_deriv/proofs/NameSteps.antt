@@ -1,7 +1,7 @@
 -- A table of names at an index.
 use Rattle.std.proofs.Common.{◌≡◌, ℕ, ◌+◌, List, Some, None, slice_get, drop, ap, ◌∙◌}
 use Rattle.pc_deriv.specs.Reading.{after_word, or_else, beside, read_named}
-use Rattle.pc_lists.proofs.Cuts.{drop_item}
+use Rattle.pc_base.proofs.Cuts.{drop_item}
 
 module _ {A : Type 0} (name : A → List ℕ) (end : ℕ) (xs : List A) (i : ℕ) (x : A) (text : List ℕ) where
   pub named_here : (rest : List ℕ) → slice_get xs i ≡ Some x → after_word (name x) end text ≡ Some rest → read_named name end (drop i xs) text ≡ Some (x, rest)

@@ -1,16 +1,10 @@
 -- A number is read from its digits and their end, and from nothing else.
-use Rattle.std.proofs.Common.{◌≡◌, ℕ, zero, suc, ◌+◌, ◌-◌, ◌*◌, ◌/◌, ◌%◌, ◌^◌, ◌<◌, ◌≤◌, Bool, true, false, cond, ◌&&◌, ◌==◌, List, [], ◌∷◌, ◌++◌, Option, Some, None, refl, sym, ap, ◌∙◌, arith, append_assoc, mod-lt}
-use Rattle.std.specs.Prelude.{nat_lt, nat_le}
-use Rattle.std.proofs.lemmas.Bool.{eq-eqb, ne_eqb, eqb-true}
-use Rattle.std.proofs.lemmas.Bool.Decides.{nat_tests}
-use Rattle.std.proofs.lemmas.Nat.{div-add-mod'}
-use Rattle.std.specs.Char.{is_ascii_digit, is_ascii_lowercase}
-use Rattle.std.specs.Fmt.{digit_glyph, digits}
+use Rattle.std.proofs.{Common.{◌≡◌, ℕ, zero, suc, ◌+◌, ◌-◌, ◌*◌, ◌/◌, ◌%◌, ◌^◌, ◌<◌, ◌≤◌, Bool, true, false, cond, ◌&&◌, ◌==◌, List, [], ◌∷◌, ◌++◌, Option, Some, None, refl, sym, ap, ◌∙◌, arith, append_assoc, mod-lt}, lemmas.Bool.{eq-eqb, ne_eqb, eqb-true}, lemmas.Bool.Decides.nat_tests, lemmas.Nat.div-add-mod', lemmas.Option.same_Some}
+use Rattle.std.specs.{Prelude.{nat_lt, nat_le}, Char.{is_ascii_digit, is_ascii_lowercase}, Fmt.{digit_glyph, digits}}
 use Rattle.pc_deriv.specs.Reading.{digit_of, at_most, with_digit, digits_on, number_at}
-use Rattle.pc_lists.specs.Lists.{◌>>=◌}
+use Rattle.pc_base.specs.Lists.{◌>>=◌}
 use Rattle.pc_deriv.proofs.Digits.{Base}
-use Rattle.pc_lists.proofs.Options.{none_some, bind_some}
-use Rattle.std.proofs.lemmas.Option.{same_Some}
+use Rattle.pc_base.proofs.Options.{none_some, bind_some}
 
 pub bind_own : {A B : Type 0} (o : Option A) (f : A → Option B) (x : A) (y : Option B) → o ≡ Some x → f x ≡ y → (o >>= f) ≡ y
 bind_own {A = A} o f x y e h = ap (λ (p : Option A). p >>= f) e ∙ h

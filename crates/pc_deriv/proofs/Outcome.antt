@@ -1,19 +1,10 @@
 -- The outcome of a text, and its existence.
-use Rattle.std.proofs.Common.{◌≡◌, ℕ, zero, suc, ◌+◌, ◌<◌, ◌≤◌, Bool, true, false, cond, ◌&&◌, List, [], ◌∷◌, ◌++◌, Option, Some, None, Ok, Err, length, refl, sym, ap, ◌∙◌, inl, inr, ◌⊎◌, arith, append_assoc, append-nil}
-use Rattle.std.specs.Prelude.{Result, IfOk, IfErr, nat_lt, nat_le}
-use Rattle.std.specs.List.{AllByRecursion}
-use Rattle.std.proofs.lemmas.Bool.Decides.{nat_tests}
+use Rattle.std.proofs.{Common.{◌≡◌, ℕ, zero, suc, ◌+◌, ◌<◌, ◌≤◌, Bool, true, false, cond, ◌&&◌, List, [], ◌∷◌, ◌++◌, Option, Some, None, Ok, Err, length, refl, sym, ap, ◌∙◌, inl, inr, ◌⊎◌, arith, append_assoc, append-nil}, lemmas.Bool.Decides.nat_tests}
+use Rattle.std.specs.{Prelude.{Result, IfOk, IfErr, nat_lt, nat_le}, List.AllByRecursion}
 use Rattle.pc_caps.specs.declared.capability.Cap.{Cap}
-use Rattle.pc_ann.specs.declared.annotation.Note.{Note}
-use Rattle.pc_ann.specs.declared.annotation.Ann.{Ann}
-use Rattle.pc_deriv.specs.declared.version.Version.{Version}
-use Rattle.pc_deriv.specs.declared.fault.DerivFault.{DerivFault}
+use Rattle.pc_ann.specs.{declared.annotation.Note.Note, declared.annotation.Ann.Ann}
+use Rattle.pc_deriv.specs.{declared.version.Version.Version, declared.fault.DerivFault.DerivFault, Text.{slot_line, note_line, CountsFit, SlotFits, NoteFits, Within, IsText, BeginsLine, NoLine, BeginsHead, IsBadLine, bad_head, bad_slot, bad_node, bad_end, IsFault}, Parts.{derivation_slot_limit, derivation_node_limit, each_line, RefusesDerivation}, Reading.{head_at, read_slot, note_at}, Answers.AnswersDerivation}
 use Rattle.pc_deriv.specs.declared.fault.DerivFault.TheVariants as fault
-use Rattle.pc_deriv.specs.Text.{slot_line, note_line, CountsFit, SlotFits, NoteFits, Within, IsText, BeginsLine, NoLine, BeginsHead, IsBadLine, bad_head, bad_slot, bad_node, bad_end, IsFault}
-use Rattle.pc_deriv.specs.Parts.{derivation_slot_limit, derivation_node_limit, each_line}
-use Rattle.pc_deriv.specs.Parts.{RefusesDerivation}
-use Rattle.pc_deriv.specs.Reading.{head_at, read_slot, note_at}
-use Rattle.pc_deriv.specs.Answers.{AnswersDerivation}
 use Rattle.pc_deriv.proofs.LineReading.{Reads, head_text, HeadFits, head_reads, slot_reads, note_reads}
 
 -- one more, and the later ones

@@ -1,18 +1,11 @@
 -- The lines that have been read.
-use Rattle.std.proofs.Common.{◌≡◌, ℕ, true, false, ◌==◌, ◌+◌, ◌<◌, List, [], ◌∷◌, ◌++◌, Option, Some, None, length, refl, sym, ap, ◌∙◌, arith, append_assoc, append-nil}
-use Rattle.std.proofs.lemmas.Bool.{true≢false, eqb-true}
+use Rattle.std.proofs.{Common.{◌≡◌, ℕ, true, false, ◌==◌, ◌+◌, ◌<◌, List, [], ◌∷◌, ◌++◌, Option, Some, None, length, refl, sym, ap, ◌∙◌, arith, append_assoc, append-nil}, lemmas.Bool.{true≢false, eqb-true}}
 use Rattle.std.specs.List.{AllByRecursion}
 use Rattle.pc_caps.specs.declared.capability.Cap.{Cap}
 use Rattle.pc_ann.specs.declared.annotation.Note.{Note}
-use Rattle.pc_deriv.specs.Text.{head_line, slot_line, note_line, SlotFits, NoteFits, Within, IsText, BeginsLine, NoLine, BeginsHead, IsBadLine, bad_head, bad_slot, bad_node, bad_end, IsTooMany}
-use Rattle.pc_deriv.specs.Parts.{each_line}
-use Rattle.pc_deriv.specs.Parts.{RefusesDerivation}
-use Rattle.pc_deriv.specs.Reading.{head_at, read_slot, note_at}
-use Rattle.pc_deriv.specs.declared.version.Version.{Version}
-use Rattle.pc_deriv.specs.declared.fault.DerivFault.{DerivFault}
+use Rattle.pc_deriv.specs.{Text.{head_line, slot_line, note_line, SlotFits, NoteFits, Within, IsText, BeginsLine, NoLine, BeginsHead, IsBadLine, bad_head, bad_slot, bad_node, bad_end, IsTooMany}, Parts.{each_line, RefusesDerivation}, Reading.{head_at, read_slot, note_at}, declared.version.Version.Version, declared.fault.DerivFault.DerivFault, Stops.{StopsEarly, SlotsStop, NotesStop}}
 use Rattle.pc_deriv.specs.declared.fault.DerivFault.TheVariants as fault
-use Rattle.pc_deriv.specs.Stops.{StopsEarly, SlotsStop, NotesStop}
-use Rattle.pc_lists.proofs.Options.{none_some}
+use Rattle.pc_base.proofs.Options.{none_some}
 use Rattle.pc_deriv.proofs.LineReading.{Reads, head_text, HeadFits, head_reads, slot_reads, note_reads}
 
 lines_app : {A : Type 0} (line : A → List ℕ) (xs : List A) (x : A) (rest : List ℕ) → each_line line (xs ++ x ∷ []) ++ rest ≡ each_line line xs ++ (line x ++ rest)

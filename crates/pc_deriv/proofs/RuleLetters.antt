@@ -2,9 +2,7 @@
 use Rattle.std.proofs.Common.{◌≡◌, ℕ, ◌<◌, List, [], ◌∷◌, refl, sym, subst, arith, slice_index_or}
 use Rattle.pc_ann.specs.declared.annotation.Rule.{Rule}
 use Rattle.pc_ann.specs.declared.annotation.Rule.TheVariants as rule
-use Rattle.pc_deriv.specs.declared.vocabulary.TheConstants.{RULES}
-use Rattle.pc_deriv.specs.Text.{rule_name}
-use Rattle.pc_deriv.specs.Reading.{after_bytes, after_word, read_named, rule_at}
+use Rattle.pc_deriv.specs.{declared.vocabulary.TheConstants.RULES, Text.rule_name, Reading.{after_bytes, after_word, read_named, rule_at}}
 
 by_letter : (letter : ℕ) (rules : List Rule) → 0 < letter → ((bs : List ℕ) → read_named rule_name 32 rules (letter ∷ bs) ≡ rule_at (letter ∷ bs)) → (text : List ℕ) → slice_index_or text 0 0 ≡ letter
     → read_named rule_name 32 rules text ≡ rule_at text

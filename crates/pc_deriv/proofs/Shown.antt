@@ -1,12 +1,9 @@
 -- What is written for a mask after a node.
-use Rattle.std.proofs.Common.{◌≡◌, refl, sym, ap, ◌∙◌}
-use Rattle.std.specs.Prelude.{bit_xor}
-use Rattle.std.specs.Int.Bits.{xor_assoc, xor_self, xor_zero_l}
-use Rattle.std.proofs.lemmas.Nat.{xor_lt}
+use Rattle.std.proofs.{Common.{◌≡◌, refl, sym, ap, ◌∙◌}, lemmas.Nat.xor_lt}
+use Rattle.std.specs.{Prelude.bit_xor, Int.Bits.{xor_assoc, xor_self, xor_zero_l}}
 use Rattle.pc_masks.specs.declared.mask.Mask.{Mask}
-use Rattle.pc_deriv.specs.declared.version.Version.{Version}
+use Rattle.pc_deriv.specs.{declared.version.Version.Version, Text.{shown_after, MaskFits}}
 use Rattle.pc_deriv.specs.declared.version.Version.TheVariants as version
-use Rattle.pc_deriv.specs.Text.{shown_after, MaskFits}
 
 -- applied to what is written, it gives the mask
 pub shown_twice : (v : Version) (before after : Mask) → shown_after v before (shown_after v before after) ≡ after

@@ -1,28 +1,14 @@
 -- After well-formed lines, the next line is the next thing of the text, or is the fault of the text.
-use Rattle.std.proofs.Common.{◌≡◌, ℕ, suc, ◌+◌, ◌<◌, ◌≤◌, Bool, true, false, cond, ◌&&◌, ◌==◌, List, [], ◌∷◌, ◌++◌, Option, Some, None, Ok, Err, length, refl, sym, ap, ap₂, ◌∙◌, subst, inl, inr, arith, append_assoc, append-nil, length-append}
-use Rattle.std.specs.Prelude.{map, option_map, nat_le}
-use Rattle.std.specs.List.{AllByRecursion}
-use Rattle.std.proofs.lemmas.Bool.{true≢false, eq-eqb, ne_eqb, cases_lt, and_parts}
-use Rattle.std.proofs.lemmas.Bool.Decides.{nat_tests}
-use Rattle.std.proofs.lemmas.Option.{same_Some}
+use Rattle.std.proofs.{Common.{◌≡◌, ℕ, suc, ◌+◌, ◌<◌, ◌≤◌, Bool, true, false, cond, ◌&&◌, ◌==◌, List, [], ◌∷◌, ◌++◌, Option, Some, None, Ok, Err, length, refl, sym, ap, ap₂, ◌∙◌, subst, inl, inr, arith, append_assoc, append-nil, length-append}, lemmas.Bool.{true≢false, eq-eqb, ne_eqb, cases_lt, and_parts}, lemmas.Bool.Decides.nat_tests, lemmas.Option.same_Some}
+use Rattle.std.specs.{Prelude.{map, option_map, nat_le}, List.AllByRecursion}
 use Rattle.pc_caps.specs.declared.capability.Cap.{Cap}
-use Rattle.pc_ann.specs.declared.annotation.Note.{Note}
-use Rattle.pc_ann.specs.declared.annotation.Ann.{Ann}
-use Rattle.pc_deriv.specs.declared.version.Version.{Version}
+use Rattle.pc_ann.specs.{declared.annotation.Note.Note, declared.annotation.Ann.Ann}
+use Rattle.pc_deriv.specs.{declared.version.Version.Version, declared.line.Line.Line, Text.{head_line, slot_line, note_line, CountsFit, SlotFits, NoteFits, Within, IsText, NoLine, IsBadLine, bad_head, bad_slot, bad_node, bad_end, IsTooMany}, Parts.{derivation_slot_limit, derivation_node_limit, each_line, version_number}, Reading.{head_at, read_slot, note_at}, Lines.{longest_line, head_in, slot_line_in, node_in, line_in, within_limits, version_of, version_with, counts_with, is_whole, line_of_slot, lines_of}, Pieces.NoEnd}
 use Rattle.pc_deriv.specs.declared.version.Version.TheVariants as version
-use Rattle.pc_deriv.specs.declared.line.Line.{Line}
 use Rattle.pc_deriv.specs.declared.line.Line.TheVariants as line
 use Rattle.pc_deriv.specs.declared.line.LineFault.TheVariants as fault
-use Rattle.pc_deriv.specs.Text.{head_line, slot_line, note_line, CountsFit, SlotFits, NoteFits, Within, IsText, NoLine, IsBadLine, bad_head, bad_slot, bad_node, bad_end, IsTooMany}
-use Rattle.pc_deriv.specs.Parts.{derivation_slot_limit, derivation_node_limit, each_line}
-use Rattle.pc_deriv.specs.Parts.{version_number}
-use Rattle.pc_deriv.specs.Reading.{head_at, read_slot, note_at}
-use Rattle.pc_deriv.specs.Lines.{longest_line, head_in, slot_line_in, node_in, line_in, within_limits, version_of, version_with, counts_with, is_whole, line_of_slot, lines_of}
-use Rattle.pc_deriv.specs.Pieces.{NoEnd}
-use Rattle.pc_lists.proofs.Options.{none_some}
-use Rattle.pc_deriv.proofs.Reached.{all_app}
-use Rattle.pc_deriv.proofs.LineReading.{head_text, HeadFits, head_reads, slot_reads, note_reads}
-use Rattle.pc_deriv.proofs.LineEnds.{head_framed, slot_framed, note_framed, none_long, none_ended, none_open, is_line}
+use Rattle.pc_base.proofs.Options.{none_some}
+use Rattle.pc_deriv.proofs.{Reached.all_app, LineReading.{head_text, HeadFits, head_reads, slot_reads, note_reads}, LineEnds.{head_framed, slot_framed, note_framed, none_long, none_ended, none_open, is_line}}
 
 -- ---- what was read
 

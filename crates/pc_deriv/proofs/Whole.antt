@@ -1,19 +1,11 @@
 -- The lines of bytes that are taken one by one are those of the whole text, and so is their first fault.
-use Rattle.std.proofs.Common.{◌≡◌, ◌≢◌, ℕ, ◌+◌, ◌<◌, Bool, true, false, cond, ◌==◌, List, [], ◌∷◌, ◌++◌, Option, Some, None, Ok, Err, length, refl, sym, ap, ◌∙◌, subst, arith, append_assoc, append-nil, length-append}
+use Rattle.std.proofs.{Common.{◌≡◌, ◌≢◌, ℕ, ◌+◌, ◌<◌, Bool, true, false, cond, ◌==◌, List, [], ◌∷◌, ◌++◌, Option, Some, None, Ok, Err, length, refl, sym, ap, ◌∙◌, subst, arith, append_assoc, append-nil, length-append}, lemmas.Bool.{true≢false, eqb-true, eq-eqb}}
 use Rattle.std.specs.Prelude.{Result}
-use Rattle.std.proofs.lemmas.Bool.{true≢false, eqb-true, eq-eqb}
 use Rattle.pc_ann.specs.declared.annotation.Ann.{Ann}
-use Rattle.pc_deriv.specs.declared.line.Line.{Line}
-use Rattle.pc_deriv.specs.declared.line.LineFault.{LineFault}
+use Rattle.pc_deriv.specs.{declared.line.Line.Line, declared.line.LineFault.LineFault, Text.{IsText, IsBadLine, IsTooMany, IsFault}, Lines.{Taken, nothing_taken, line_in, within_limits, checked, line_meaning, behind, answered, with_line_byte, took_at, took, with_first_line, fed, longest_line, is_whole, fault_at_end, ended_so, lines_of}, Pieces.NoEnd, Laws.{as_read, IsRead}}
 use Rattle.pc_deriv.specs.declared.line.LineFault.TheVariants as fault
-use Rattle.pc_deriv.specs.Text.{IsText, IsBadLine, IsTooMany, IsFault}
-use Rattle.pc_deriv.specs.Lines.{Taken, nothing_taken, line_in, within_limits, checked, line_meaning, behind, answered, with_line_byte, took_at, took, with_first_line, fed, longest_line, is_whole, fault_at_end, ended_so, lines_of}
-use Rattle.pc_deriv.specs.Pieces.{NoEnd}
-use Rattle.pc_deriv.specs.Laws.{as_read, IsRead}
-use Rattle.pc_lists.proofs.Options.{none_some}
-use Rattle.pc_deriv.proofs.Outcome.{one_annotation, one_version, one_fault, no_fault}
-use Rattle.pc_deriv.proofs.Feeding.{more_app, no_end_app}
-use Rattle.pc_deriv.proofs.Stages.{Place, at_first, Stage, stage, Took, next, passes, Closes}
+use Rattle.pc_base.proofs.Options.{none_some}
+use Rattle.pc_deriv.proofs.{Outcome.{one_annotation, one_version, one_fault, no_fault}, Feeding.{more_app, no_end_app}, Stages.{Place, at_first, Stage, stage, Took, next, passes, Closes}}
 
 abbrev Answer : Type 0
 Answer = Result (Option Line) LineFault

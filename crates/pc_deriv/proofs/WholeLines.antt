@@ -1,23 +1,10 @@
 -- A line that is read in place is the line that its bytes give one by one.
-use Rattle.std.proofs.Common.{◌≡◌, ◌≢◌, ℕ, suc, ◌+◌, ◌-◌, ◌<◌, ◌≤◌, Bool, true, false, cond, ◌==◌, List, [], ◌∷◌, ◌++◌, Option, Some, None, Ok, Err, length, take, drop, refl, sym, ap, ◌∙◌, subst, arith, append_assoc, append-nil, length-append, length-drop}
+use Rattle.std.proofs.{Common.{◌≡◌, ◌≢◌, ℕ, suc, ◌+◌, ◌-◌, ◌<◌, ◌≤◌, Bool, true, false, cond, ◌==◌, List, [], ◌∷◌, ◌++◌, Option, Some, None, Ok, Err, length, take, drop, refl, sym, ap, ◌∙◌, subst, arith, append_assoc, append-nil, length-append, length-drop}, lemmas.Bool.ne_eqb, lemmas.Option.same_Some, lemmas.Slice.between_to_end, Math.Seq.take-append_seam}
 use Rattle.std.specs.Prelude.{Result, option_map, nat_le, slice_range}
-use Rattle.std.proofs.lemmas.Bool.{ne_eqb}
-use Rattle.std.proofs.lemmas.Option.{same_Some}
-use Rattle.std.proofs.lemmas.Slice.{between_to_end}
-use Rattle.std.proofs.Math.Seq.{take-append_seam}
-use Rattle.pc_deriv.specs.declared.version.Version.{Version}
-use Rattle.pc_deriv.specs.declared.line.Line.{Line}
+use Rattle.pc_deriv.specs.{declared.version.Version.Version, declared.line.Line.Line, declared.line.LineFault.LineFault, Text.{slot_line, note_line, SlotFits, NoteFits}, Reading.{head_at, read_slot, note_at}, Lines.{Taken, slot_line_in, node_in, line_in, checked, line_meaning, behind, answered, with_line_byte, took_at, took, with_first_line, fed, longest_line}, Front.{counted, head_says, slot_says, front_slot, front_node, front_line}, Pieces.{NoEnd, EndsOnce, IsNext}}
 use Rattle.pc_deriv.specs.declared.line.Line.TheVariants as line
-use Rattle.pc_deriv.specs.declared.line.LineFault.{LineFault}
-use Rattle.pc_deriv.specs.Text.{slot_line, note_line, SlotFits, NoteFits}
-use Rattle.pc_deriv.specs.Reading.{head_at, read_slot, note_at}
-use Rattle.pc_deriv.specs.Lines.{Taken, slot_line_in, node_in, line_in, checked, line_meaning, behind, answered, with_line_byte, took_at, took, with_first_line, fed, longest_line}
-use Rattle.pc_deriv.specs.Front.{counted, head_says, slot_says, front_slot, front_node, front_line}
-use Rattle.pc_deriv.specs.Pieces.{NoEnd, EndsOnce, IsNext}
-use Rattle.pc_lists.proofs.Options.{none_some}
-use Rattle.pc_deriv.proofs.Feeding.{fed_both, fed_stays}
-use Rattle.pc_deriv.proofs.LineReading.{Reads, head_text, HeadFits, head_reads, slot_reads, note_reads}
-use Rattle.pc_deriv.proofs.LineEnds.{Framed, head_framed, slot_framed, note_framed}
+use Rattle.pc_base.proofs.Options.{none_some}
+use Rattle.pc_deriv.proofs.{Feeding.{fed_both, fed_stays}, LineReading.{Reads, head_text, HeadFits, head_reads, slot_reads, note_reads}, LineEnds.{Framed, head_framed, slot_framed, note_framed}}
 
 -- ---- the line is the one that the bytes are
 

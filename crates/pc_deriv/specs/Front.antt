@@ -1,7 +1,7 @@
 -- The line at the start of a text, with the number of its bytes.
 use Rattle.std.specs.Prelude.{ℕ, ◌+◌, ◌-◌, nat_le, List, length, Option, Some, None, option_map, if◌then◌else◌}
 use Rattle.pc_caps.specs.declared.capability.Cap.{Cap}
-use Rattle.pc_deriv.specs.{Parts.version_number, Reading.head_at, Reading.read_slot, Reading.note_at, declared.version.Version.Version, declared.line.Line.Line}
+use Rattle.pc_deriv.specs.{Parts.version_number, Reading.{head_at, read_slot, note_at}, declared.version.Version.Version, declared.line.Line.Line}
 use Rattle.pc_deriv.specs.declared.line.Line.TheVariants as line
 
 -- what was read as a line, and how many bytes come before what follows

@@ -1,7 +1,7 @@
 -- Laws of all derivation texts.
 use Rattle.std.specs.Prelude.{◌≡◌, ℕ, List, ◌++◌, Some, Result, Ok, Err}
 use Rattle.pc_ann.specs.declared.annotation.Ann.{Ann}
-use Rattle.pc_deriv.specs.{declared.fault.DerivFault.DerivFault, declared.line.Line.Line, declared.line.LineFault.LineFault, Lines.Taken, Lines.nothing_taken, Lines.fed, Lines.ended_so, Lines.lines_of, Text.IsText, Text.IsFault}
+use Rattle.pc_deriv.specs.{declared.fault.DerivFault.DerivFault, declared.line.Line.Line, declared.line.LineFault.LineFault, Lines.{Taken, nothing_taken, fed, ended_so, lines_of}, Text.{IsText, IsFault}}
 use Rattle.pc_deriv.specs.declared.fault.DerivFault.TheVariants as fault
 use Rattle.pc_deriv.specs.declared.line.LineFault.TheVariants as line_fault
 

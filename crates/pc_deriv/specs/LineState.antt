@@ -1,6 +1,6 @@
 -- The state of the reader of lines.
 use Rattle.std.specs.Prelude.{◌≡◌, ℕ, ◌+◌, ◌<◌, ◌≤◌, length, take, Option, Some, None}
-use Rattle.pc_deriv.specs.{Parts.derivation_slot_limit, Parts.derivation_node_limit, Lines.Taken, Lines.longest_line, declared.line_state.LineState.LineState}
+use Rattle.pc_deriv.specs.{Parts.{derivation_slot_limit, derivation_node_limit}, Lines.{Taken, longest_line}, declared.line_state.LineState.LineState}
 
 abbrev pub taken_of : LineState → Taken
 taken_of s = record { version = s.version; counts = s.counts; ended = s.ended; pending = take s.filled s.buffer; fault = s.fault }

@@ -2,7 +2,7 @@
 use Rattle.std.specs.Prelude.{ℕ, ◌+◌, ◌==◌, nat_le, Bool, false, ◌&&◌, List, [], ◌∷◌, ◌++◌, length, map, Option, Some, None, option_map, Result, Ok, Err, if◌then◌else◌}
 use Rattle.pc_caps.specs.declared.capability.Cap.{Cap}
 use Rattle.pc_ann.specs.declared.annotation.Ann.{Ann}
-use Rattle.pc_deriv.specs.{Parts.derivation_slot_limit, Parts.derivation_node_limit, Parts.version_number, Reading.head_at, Reading.read_slot, Reading.note_at, declared.version.Version.Version, declared.line.Line.Line, declared.line.LineFault.LineFault}
+use Rattle.pc_deriv.specs.{Parts.{derivation_slot_limit, derivation_node_limit, version_number}, Reading.{head_at, read_slot, note_at}, declared.version.Version.Version, declared.line.Line.Line, declared.line.LineFault.LineFault}
 use Rattle.pc_deriv.specs.declared.version.Version.TheVariants as version
 use Rattle.pc_deriv.specs.declared.line.Line.TheVariants as line
 use Rattle.pc_deriv.specs.declared.line.LineFault.TheVariants as fault

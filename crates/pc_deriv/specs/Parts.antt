@@ -1,6 +1,6 @@
 -- Further words on derivations, for contracts of code.
 use Rattle.std.specs.Prelude.{ℕ, List, ⊤, codes, flat_map}
-use Rattle.pc_caps.specs.Limits.{program_slot_limit, node_limit}
+use Rattle.pc_base.specs.Limits.{program_slot_limit, node_limit}
 use Rattle.pc_deriv.specs.{declared.version.Version.Version, declared.fault.DerivFault.DerivFault, Text.IsFault}
 use Rattle.pc_deriv.specs.declared.version.Version.TheVariants as version
 use Rattle.pc_deriv.specs.declared.fault.DerivFault.TheVariants as fault

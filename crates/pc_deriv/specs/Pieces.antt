@@ -1,6 +1,6 @@
 -- A piece of a text, from one place on: up to and including its next line end, or else to its end.
 use Rattle.std.specs.Prelude.{◌≡◌, ◌≢◌, ℕ, ◌<◌, ◌≤◌, List, [], ◌∷◌, ◌++◌, length, drop, slice_range, Option, Some, None, Result, Ok, Err, ⊤}
-use Rattle.pc_deriv.specs.{declared.line.Line.Line, declared.line.LineFault.LineFault, Lines.Taken, Lines.fed}
+use Rattle.pc_deriv.specs.{declared.line.Line.Line, declared.line.LineFault.LineFault, Lines.{Taken, fed}}
 
 -- no byte is a line end
 abbrev pub NoEnd : List ℕ → Type 0

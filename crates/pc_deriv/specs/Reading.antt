@@ -1,11 +1,10 @@
 -- How the start of a text is read: a value, and what follows it.
-use Rattle.std.specs.Prelude.{ℕ, ◌+◌, ◌-◌, ◌*◌, ◌^◌, nat_lt, nat_le, nat_eq, ◌&&◌, ◌==◌, List, [], ◌∷◌, length, drop, Option, Some, None, if◌then◌else◌, codes}
-use Rattle.std.specs.{List.starts_with, Char.is_ascii_digit, Char.is_ascii_lowercase}
-use Rattle.pc_caps.specs.{declared.capability.Cap.Cap, declared.capability.Form.Form}
+use Rattle.std.specs.{Prelude.{ℕ, ◌+◌, ◌-◌, ◌*◌, ◌^◌, nat_lt, nat_le, nat_eq, ◌&&◌, ◌==◌, List, [], ◌∷◌, length, drop, Option, Some, None, if◌then◌else◌, codes}, List.starts_with, Char.{is_ascii_digit, is_ascii_lowercase}}
+use Rattle.pc_caps.specs.{declared.capability.Cap.Cap, declared.capability.Form.Form, Words.{cap_name, form_name}}
 use Rattle.pc_masks.specs.declared.mask.Mask.{Mask}
 use Rattle.pc_ann.specs.{declared.annotation.Rule.Rule, declared.annotation.Note.Note}
-use Rattle.pc_deriv.specs.{declared.vocabulary.TheConstants.VERSIONS, declared.vocabulary.TheConstants.RULES, declared.vocabulary.TheConstants.CAPS, declared.vocabulary.TheConstants.FORMS, declared.version.Version.Version, Text.version_name, Text.rule_name, Text.cap_name, Text.form_name, Text.shown_after}
-use Rattle.pc_lists.specs.Lists.{◌>>=◌}
+use Rattle.pc_deriv.specs.{declared.vocabulary.TheConstants.{VERSIONS, RULES, CAPS, FORMS}, declared.version.Version.Version, Text.{version_name, rule_name, shown_after}}
+use Rattle.pc_base.specs.Lists.{◌>>=◌}
 
 -- what follows these bytes
 unfoldable pub after_bytes : List ℕ → List ℕ → Option (List ℕ)

@@ -1,6 +1,6 @@
 -- How reading lines stops before the last.
 use Rattle.std.specs.Prelude.{◌≡◌, ℕ, ◌+◌, ◌<◌, List, length, ⊤}
-use Rattle.pc_deriv.specs.{Text.slot_line, Text.note_line, Text.SlotFits, Text.NoteFits, Text.BeginsLine, Text.NoLine, declared.version.Version.Version, declared.fault.DerivFault.DerivFault}
+use Rattle.pc_deriv.specs.{Text.{slot_line, note_line, SlotFits, NoteFits, BeginsLine, NoLine}, declared.version.Version.Version, declared.fault.DerivFault.DerivFault}
 use Rattle.pc_deriv.specs.declared.fault.DerivFault.TheVariants as fault
 
 -- After some lines, fewer than wanted, there is no further one.

@@ -1,10 +1,9 @@
 -- The derivation text of an annotation, in each version.
-use Rattle.std.specs.Prelude.{ℕ, List, codes, ◌<◌, ◌^◌, false, ◌++◌, length, Option, None, Some, decimal, bit_xor, ⊤, ◌≡◌, ◌+◌, ◌≤◌, flat_map}
-use Rattle.std.specs.{Fmt.digits, List.AllByRecursion}
-use Rattle.pc_caps.specs.{declared.capability.Cap.Cap, declared.capability.Form.Form, Limits.program_slot_limit, Limits.node_limit}
+use Rattle.std.specs.{Prelude.{ℕ, List, codes, ◌<◌, ◌^◌, false, ◌++◌, length, Option, None, Some, decimal, bit_xor, ⊤, ◌≡◌, ◌+◌, ◌≤◌, flat_map}, Fmt.digits, List.AllByRecursion}
+use Rattle.pc_base.specs.{Limits.{program_slot_limit, node_limit}, Lists.line_end}
+use Rattle.pc_caps.specs.{declared.capability.Cap.Cap, declared.capability.Form.Form, Words.{cap_name, form_name}}
 use Rattle.pc_ann.specs.{declared.annotation.Rule.Rule, declared.annotation.Note.Note, declared.annotation.Ann.Ann}
 use Rattle.pc_deriv.specs.{declared.version.Version.Version, declared.fault.DerivFault.DerivFault}
-use Rattle.pc_lists.specs.Lists.{line_end}
 use Rattle.pc_masks.specs.declared.mask.Mask.{Mask}
 use Rattle.pc_caps.specs.declared.capability.Cap.TheVariants as cap
 use Rattle.pc_caps.specs.declared.capability.Form.TheVariants as form
@@ -54,24 +53,6 @@ rule_name rule.If = codes "if"
 rule_name rule.While = codes "while"
 rule_name rule.Recover = codes "recover"
 rule_name rule.Body = codes "body"
-
-abbrev pub cap_name : Cap → List ℕ
-cap_name cap.Iso = codes "iso"
-cap_name cap.Trn = codes "trn"
-cap_name cap.Ref = codes "ref"
-cap_name cap.Val = codes "val"
-cap_name cap.Box = codes "box"
-cap_name cap.Tag = codes "tag"
-
-abbrev pub form_name : Form → List ℕ
-form_name form.IsoE = codes "iso^"
-form_name form.TrnE = codes "trn^"
-form_name form.Iso = codes "iso"
-form_name form.Trn = codes "trn"
-form_name form.Ref = codes "ref"
-form_name form.Val = codes "val"
-form_name form.Box = codes "box"
-form_name form.Tag = codes "tag"
 
 -- ---- the text
 

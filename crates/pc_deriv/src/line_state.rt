@@ -6,7 +6,7 @@ ghost use Rattle.pc_deriv.specs.LineState.{taken_of, Room, Sound};
 use crate::front::front_line;
 use crate::line::{Line, LineFault};
 use crate::version::{Version, version_of};
-use pc_caps::{NODE_LIMIT, PROGRAM_SLOT_LIMIT};
+use pc_base::{NODE_LIMIT, PROGRAM_SLOT_LIMIT};
 
 /// The greatest number of bytes of a line, including its end. No line of an annotation's text is longer.
 const LONGEST_LINE: usize = 128;

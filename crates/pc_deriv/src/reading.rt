@@ -12,7 +12,8 @@ use crate::fault::DerivFault;
 use crate::lines::{head_at, note_at, slot_at};
 use crate::version::Version;
 use pc_ann::{Ann, Note};
-use pc_caps::{Cap, List, NODE_LIMIT, PROGRAM_SLOT_LIMIT};
+use pc_base::{List, NODE_LIMIT, PROGRAM_SLOT_LIMIT};
+use pc_caps::Cap;
 use std::alloc::Global;
 
 /// Reads this number of lines of slots.

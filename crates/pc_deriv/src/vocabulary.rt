@@ -1,11 +1,12 @@
 //! The names of versions, rules, capabilities and forms.
 ghost use Rattle.std.specs.Prelude.{◌≡◌, ℕ, List, option_map};
+ghost use Rattle.pc_caps.specs.Words as words;
 ghost use Rattle.pc_deriv.specs.Text as names;
 ghost use Rattle.pc_deriv.specs.Reading as reading;
 
 use crate::version::Version;
 use pc_ann::Rule;
-use pc_caps::{Cap, Form};
+use pc_caps::{Cap, Form, cap_name, form_name};
 
 const VERSIONS: [Version; 2] = [Version::One, Version::Two];
 
@@ -106,36 +107,6 @@ pub fn rule_name(rule: Rule) -> &'static str
     }
 }
 
-/// The name of a capability.
-pub fn cap_name(cap: Cap) -> &'static str
-    ensures { result.now ≡ names.cap_name cap }
-{
-    match cap {
-        Cap::Iso => "iso",
-        Cap::Trn => "trn",
-        Cap::Ref => "ref",
-        Cap::Val => "val",
-        Cap::Box => "box",
-        Cap::Tag => "tag",
-    }
-}
-
-/// The name of a form.
-pub fn form_name(form: Form) -> &'static str
-    ensures { result.now ≡ names.form_name form }
-{
-    match form {
-        Form::IsoE => "iso^",
-        Form::TrnE => "trn^",
-        Form::Iso => "iso",
-        Form::Trn => "trn",
-        Form::Ref => "ref",
-        Form::Val => "val",
-        Form::Box => "box",
-        Form::Tag => "tag",
-    }
-}
-
 // Values with a name in the text.
 trait Named: Copy {
     // The bytes of the name.
@@ -162,7 +133,7 @@ impl Named for Rule {
 }
 
 impl Named for Cap {
-    ghost spelling = { names.cap_name };
+    ghost spelling = { words.cap_name };
 
     fn name(self) -> &'static str {
         cap_name(self)
@@ -170,7 +141,7 @@ impl Named for Cap {
 }
 
 impl Named for Form {
-    ghost spelling = { names.form_name };
+    ghost spelling = { words.form_name };
 
     fn name(self) -> &'static str {
         form_name(self)

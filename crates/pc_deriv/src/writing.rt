@@ -10,9 +10,10 @@ ghost use Rattle.pc_deriv.specs.Parts.{derivation_slot_limit, derivation_node_li
 
 use crate::number_writing::{push_decimal, push_hex};
 use crate::version::{Version, shown_after};
-use crate::vocabulary::{cap_name, form_name, rule_name, version_name};
+use crate::vocabulary::{rule_name, version_name};
 use pc_ann::{Ann, Note};
-use pc_caps::{Cap, Form, List};
+use pc_base::List;
+use pc_caps::{Cap, Form, cap_name, form_name};
 use pc_masks::Mask;
 use std::alloc::{AllocError, Global};
 

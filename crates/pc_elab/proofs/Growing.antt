@@ -3,8 +3,7 @@ use Rattle.std.proofs.Common.{◌≡◌, ℕ, suc, List, [], ◌∷◌, ◌++◌
 use Rattle.pc_tree.specs.Tree as t
 use Rattle.pc_names.specs.declared.fault.NameFault.{NameFault}
 use Rattle.pc_body_spec.specs.Bodies.{Context}
-use Rattle.pc_members.specs.Members.{Member}
-use Rattle.pc_members.specs.MemberLists.{members}
+use Rattle.pc_members.specs.{Members.Member, MemberLists.members}
 use Rattle.pc_file_spec.specs.Cores.{Owned, owned, members_from, known_of, texts_of_file, placed_of, context_of, Parts, if_ok, and_member, and_members}
 use Rattle.pc_elab.specs.Outcomes.{own_members, with_slots, with_members, entity_members, row_members}
 

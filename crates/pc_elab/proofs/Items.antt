@@ -1,9 +1,7 @@
 -- One more item of a list that is traversed by number.
-use Rattle.std.proofs.Common.{◌≡◌, ℕ, zero, suc, ◌+◌, List, [], ◌∷◌, ◌++◌, length, drop, sym, ap, ◌∙◌, append_assoc, arith}
+use Rattle.std.proofs.{Common.{◌≡◌, ℕ, zero, suc, ◌+◌, List, [], ◌∷◌, ◌++◌, length, drop, sym, ap, ◌∙◌, append_assoc, arith}, Math.ListN.drop_of_length-le, lemmas.Option.none-some}
 use Rattle.std.specs.Prelude.{slice_get, Some, None, ◌≤◌}
-use Rattle.std.proofs.Math.ListN.{drop_of_length-le}
-use Rattle.std.proofs.lemmas.Option.{none-some}
-use Rattle.pc_lists.proofs.Cuts.{drop_item}
+use Rattle.pc_base.proofs.Cuts.{drop_item}
 
 pub get_some : {T : Type 0} → (xs front : List T) (i : ℕ) (x : T) → slice_get xs i ≡ Some x → xs ≡ front ++ drop i xs → xs ≡ (front ++ x ∷ []) ++ drop (i + 1) xs
 get_some xs front i x h e = e ∙ ap (λ ys. front ++ ys) (drop_item xs i x h) ∙ sym (append_assoc front (x ∷ []) (drop (i + 1) xs))

@@ -1,19 +1,13 @@
 -- The outcome of a member.
-use Rattle.std.proofs.Common.{◌≡◌, ℕ, List, [], ◌∷◌, ◌++◌, Option, Some, None, Err, refl, sym, ap, ◌∙◌}
+use Rattle.std.proofs.{Common.{◌≡◌, ℕ, List, [], ◌∷◌, ◌++◌, Option, Some, None, Err, refl, sym, ap, ◌∙◌}, lemmas.Option.{same_Some, none-some}}
 use Rattle.std.specs.Prelude.{slice_get}
-use Rattle.std.proofs.lemmas.Option.{same_Some, none-some}
-use Rattle.pc_caps.specs.declared.span.Span.{Span}
+use Rattle.pc_base.specs.declared.span.Span.{Span}
 use Rattle.pc_tree.specs.declared.written_names.Name.{Name}
 use Rattle.pc_tree.specs.Tree as t
 use Rattle.pc_core.specs.declared.nodes.Node.{Node}
-use Rattle.pc_body_spec.specs.Bodies.{Rose, Context}
-use Rattle.pc_body_spec.specs.Fold.{Numbered, and_then, put}
-use Rattle.pc_body_spec.specs.Faults.{BodyNameFault, unknown, double, long_text}
-use Rattle.pc_body_spec.specs.Slots.{Local}
-use Rattle.pc_body_spec.specs.Methods.{in_body, slots_full, nodes_full, MethodOutcome, local_names, unless_fault, unless_name, numbered_or_full, put_body}
-use Rattle.pc_body_walks.specs.declared.fault.BodyFault.{BodyFault}
+use Rattle.pc_body_spec.specs.{Bodies.{Rose, Context}, Fold.{Numbered, and_then, put}, Faults.{BodyNameFault, unknown, double, long_text}, Slots.Local, Methods.{in_body, slots_full, nodes_full, MethodOutcome, local_names, unless_fault, unless_name, numbered_or_full, put_body}}
+use Rattle.pc_body_walks.specs.{declared.fault.BodyFault.BodyFault, Checking.IsFirstBodyFault}
 use Rattle.pc_body_walks.specs.declared.fault.BodyFault.TheVariants as body
-use Rattle.pc_body_walks.specs.Checking.{IsFirstBodyFault}
 use Rattle.pc_emit.specs.Giving.{put_written}
 use Rattle.pc_members.specs.Members.{Member}
 use Rattle.pc_elab.specs.Outcomes.{PassesOrStops, as_name_fault, member_faults, member_params, span_of, extra_slot, before_nodes}

@@ -1,39 +1,21 @@
 -- The whole of a file.
-use Rattle.std.proofs.Common.{◌≡◌, ℕ, zero, suc, ◌+◌, ◌<◌, ◌^◌, List, [], ◌∷◌, ◌++◌, map, length, Some, Ok, Err, Result, refl, sym, ap, ◌∙◌, subst, arith}
+use Rattle.std.proofs.{Common.{◌≡◌, ℕ, zero, suc, ◌+◌, ◌<◌, ◌^◌, List, [], ◌∷◌, ◌++◌, map, length, Some, Ok, Err, Result, refl, sym, ap, ◌∙◌, subst, arith}, lemmas.List.length-map, lemmas.Option.{same_Some, none-some}, lemmas.Result.IfOk-weaker}
 use Rattle.std.specs.Prelude.{slice_get, IfOk}
-use Rattle.std.proofs.lemmas.List.{length-map}
-use Rattle.std.proofs.lemmas.Option.{same_Some, none-some}
-use Rattle.std.proofs.lemmas.Result.{IfOk-weaker}
-use Rattle.pc_tree.specs.declared.file.File.{File}
-use Rattle.pc_tree.specs.View.{entity_view, file_view}
+use Rattle.pc_tree.specs.{declared.file.File.File, View.{entity_view, file_view}, declared.kinds.EntityKind.EntityKind, Kinds.first_own}
 use Rattle.pc_tree.specs.Tree as t
 use Rattle.pc_token.specs.declared.kinds.Token.{Token}
 use Rattle.pc_grammar.specs.Spells as spec
 use Rattle.pc_grammar.specs.Parts as helpers
-use Rattle.pc_tree.specs.declared.kinds.EntityKind.{EntityKind}
-use Rattle.pc_core.specs.declared.declarations.EntityDef.{EntityDef}
-use Rattle.pc_core.specs.Formed.{Formed}
-use Rattle.pc_core.specs.CoreData.{CoreData}
-use Rattle.pc_names.specs.declared.fault.NameFault.{NameFault}
+use Rattle.pc_core.specs.{declared.declarations.EntityDef.EntityDef, Formed.Formed, CoreData.CoreData}
+use Rattle.pc_names.specs.{declared.fault.NameFault.NameFault, Faults.{NamesData, Collected}}
 use Rattle.pc_names.specs.declared.fault.NameFault.TheVariants as fault
-use Rattle.pc_tree.specs.Kinds.{first_own}
-use Rattle.pc_names.specs.Faults.{NamesData, Collected}
 use Rattle.pc_text_order.specs.Laws.{BodiesAscend}
 use Rattle.pc_body_spec.specs.Bodies.{Context}
-use Rattle.pc_members.specs.Members.{Member}
-use Rattle.pc_members.specs.MemberLists.{members}
-use Rattle.pc_file_spec.specs.Cores.{members_from, known_of, known_from, texts_of_file, built_in_known, built_ins, entities_from, core_with, core_of, Stands, Parts, parts_of, and_members, if_ok, built_in_parts}
+use Rattle.pc_members.specs.{Members.Member, MemberLists.members, declared.member.Member.Member as CodeMember, Views.{members_view, table_view}}
+use Rattle.pc_file_spec.specs.{Cores.{members_from, known_of, known_from, texts_of_file, built_in_known, built_ins, entities_from, core_with, core_of, Stands, Parts, parts_of, and_members, if_ok, built_in_parts}, Laws.StandsIsFormed}
 use Rattle.pc_file_spec.specs.Order as o
-use Rattle.pc_file_spec.specs.Laws.{StandsIsFormed}
-use Rattle.pc_file_spec.proofs.Collects.{collects}
-use Rattle.pc_file_spec.proofs.Steps.{same_ok}
-use Rattle.pc_file_spec.proofs.Owners.{known_count}
-use Rattle.pc_elab.specs.Cores.{Makes, IsSpelledFile, made_view}
-use Rattle.pc_elab.specs.declared.elaborating.Made.{Made}
-use Rattle.pc_members.specs.declared.member.Member.{Member as CodeMember}
-use Rattle.pc_members.specs.Views.{members_view, table_view}
-use Rattle.pc_elab.specs.Outcomes.{Grows, row_members}
-use Rattle.pc_elab.specs.Rows.{known_with, known_rows, entity_rows}
+use Rattle.pc_file_spec.proofs.{Collects.collects, Steps.same_ok, Owners.known_count}
+use Rattle.pc_elab.specs.{Cores.{Makes, IsSpelledFile, made_view}, declared.elaborating.Made.Made, Outcomes.{Grows, row_members}, Rows.{known_with, known_rows, entity_rows}}
 use Rattle.pc_elab.proofs.Growing.{rows_same}
 
 -- ---- rows

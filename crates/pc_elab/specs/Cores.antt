@@ -1,11 +1,10 @@
 -- The core of a file, in terms of the code.
 use Rattle.std.specs.Prelude.{◌≡◌, ◌≤◌, List, length, Result, Ok, Err}
-use Rattle.pc_caps.specs.Limits.{node_limit, program_slot_limit}
+use Rattle.pc_base.specs.{Limits.{node_limit, program_slot_limit}, Lists.Ascends}
 use Rattle.pc_token.specs.declared.kinds.Token.{Token}
 use Rattle.pc_grammar.specs.Spells.{SpellsFile}
 use Rattle.pc_text_order.specs.Laws.{starts}
 use Rattle.pc_core.specs.{CoreData.CoreData, Formed.Formed}
-use Rattle.pc_lists.specs.Lists.{Ascends}
 use Rattle.pc_names.specs.declared.fault.NameFault.{NameFault}
 use Rattle.pc_file_spec.specs.Cores.{Stands, IsElabFault}
 use Rattle.pc_elab.specs.declared.elaborating.Made.{Made}

@@ -1,12 +1,12 @@
 -- The elaboration of the members of a file, in terms of the code.
 use Rattle.std.specs.Prelude.{◌≡◌, ℕ, suc, List, [], ◌∷◌, ◌++◌, map, length, Option, Some, None, Result, Ok, Err, slice_get, ◌-◌}
-use Rattle.pc_caps.specs.{declared.span.Span.Span, Limits.slot_limit}
+use Rattle.pc_base.specs.{declared.span.Span.Span, Limits.slot_limit}
 use Rattle.pc_tree.specs.declared.written_names.Name.{Name}
 use Rattle.pc_core.specs.declared.nodes.Node.{Node}
 use Rattle.pc_names.specs.declared.fault.NameFault.{NameFault}
 use Rattle.pc_body_walks.specs.declared.fault.BodyFault.{BodyFault}
-use Rattle.pc_members.specs.{Members.field_texts, Members.Member, Members.written, Members.added, Members.member_text, MemberLists.member_span}
-use Rattle.pc_body_spec.specs.{Bodies.Rose, Bodies.body_of, Bodies.added_body, Bodies.Context, Bodies.PlacedLocal, Faults.BodyNameFault, Faults.body_faults, Faults.initial_faults, Slots.Local, Methods.MethodFault, Methods.MethodOutcome, Methods.param_names, Methods.local_names, Methods.unless_fault, Methods.unless_full, Methods.put_body}
+use Rattle.pc_members.specs.{Members.{field_texts, Member, written, added, member_text}, MemberLists.member_span}
+use Rattle.pc_body_spec.specs.{Bodies.{Rose, body_of, added_body, Context, PlacedLocal}, Faults.{BodyNameFault, body_faults, initial_faults}, Slots.Local, Methods.{MethodFault, MethodOutcome, param_names, local_names, unless_fault, unless_full, put_body}}
 use Rattle.pc_file_spec.specs.Cores.{Owned, owned, placed_of, slots_from, declared, Parts, name_fault, if_ok, and_member}
 use Rattle.pc_tree.specs.Tree as t
 use Rattle.pc_names.specs.declared.fault.NameFault.TheVariants as fault

@@ -13,7 +13,7 @@ use crate::known::list_known;
 use crate::members::add_entities;
 use crate::parts::{Parts, built_in_parts};
 use crate::texts::{list_texts, table_texts};
-use pc_caps::List;
+use pc_base::List;
 use pc_core::{Core, EntityDef};
 use pc_file_spec::cores_are_formed;
 use pc_members::{Member, list_members};

@@ -11,7 +11,7 @@ ghost use Rattle.pc_elab.specs.Rows as rows;
 use crate::known::{default_cap, number_after};
 use crate::language::add_built_ins;
 use crate::signature::type_in;
-use pc_caps::List;
+use pc_base::List;
 use pc_core::{EntityDef, FieldInfo};
 use pc_members::Member;
 use pc_names::Names;

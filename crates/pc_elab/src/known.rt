@@ -6,7 +6,8 @@ ghost use Rattle.pc_body_spec.specs.Parts.{cap_or as either_cap};
 ghost use Rattle.pc_members.specs.Views.{members_view, table_view};
 ghost use Rattle.pc_elab.specs.Rows as rows;
 
-use pc_caps::{Cap, List, ShortBytes};
+use pc_base::{List, ShortBytes};
+use pc_caps::Cap;
 use pc_members::Member;
 use pc_resolve::{Constructor, Constructors, Known};
 use pc_tree::{Entity, EntityKind};

@@ -3,7 +3,8 @@ ghost use Rattle.std.specs.Prelude.{◌≡◌, ◌++◌, ◌∷◌, [], IfOk, On
 ghost use Rattle.pc_core.specs.Entities.{built_in, built_in_value, out_field, print_method};
 ghost use Rattle.pc_file_spec.specs.Cores as spec;
 
-use pc_caps::{Cap, Form, List, Span};
+use pc_base::{List, Span};
+use pc_caps::{Cap, Form};
 use pc_core::{EntityDef, FieldInfo, Method, MethodKind, ParamInfo};
 use pc_tree::{EntityKind, NONE_ENTITY, OUT_STREAM_ENTITY, STRING_ENTITY};
 use std::alloc::{AllocError, Global};

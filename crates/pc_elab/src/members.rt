@@ -10,7 +10,7 @@ ghost use Rattle.pc_elab.specs.Views.{parts_view};
 
 use crate::parts::{Parts, add_member};
 use crate::slots::{locals_of, placed_of};
-use pc_caps::{List, ShortBytes};
+use pc_base::{List, ShortBytes};
 use pc_members::Member;
 use pc_names::NameFault;
 use pc_resolve::Context;

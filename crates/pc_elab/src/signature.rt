@@ -6,7 +6,8 @@ ghost use Rattle.pc_file_spec.specs.Cores as spec;
 ghost use Rattle.pc_members.specs.Views.{member_view};
 
 use crate::known::cap_or;
-use pc_caps::{Cap, Form, List, plain, unalias};
+use pc_base::List;
+use pc_caps::{Cap, Form, plain, unalias};
 use pc_core::{MethodKind, ParamInfo};
 use pc_members::Member;
 use pc_resolve::Context;

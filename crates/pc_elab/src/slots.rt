@@ -10,8 +10,9 @@ ghost use Rattle.pc_file_spec.specs.Cores as spec;
 ghost use Rattle.pc_elab.specs.Slots as counts;
 
 use crate::signature::receiver_of;
+use pc_base::List;
 use pc_body_walks::{Local, added_locals, locals, slots};
-use pc_caps::{Cap, List};
+use pc_caps::Cap;
 use pc_core::{ParamInfo, Slot, SlotKind};
 use pc_members::Member;
 use pc_resolve::{Context, LocalSlots};

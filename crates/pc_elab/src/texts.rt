@@ -3,8 +3,8 @@ ghost use Rattle.std.specs.Prelude.{◌≡◌, ◌<◌, [], ◌^◌, length, IfO
 ghost use Rattle.pc_tree.specs.View.{file_view};
 ghost use Rattle.pc_file_spec.specs.Cores.{texts_of_file};
 
+use pc_base::List;
 use pc_body_walks::add_texts;
-use pc_caps::List;
 use pc_members::NameTable;
 use pc_names::add_member_texts;
 use pc_tree::File;

@@ -1,31 +1,20 @@
 -- A chain of suffixes, cut before its last one, and how it starts.
-use Rattle.std.proofs.Common.{◌≡◌, ℕ, zero, suc, ◌+◌, ◌-◌, ◌<◌, ◌≤◌, Bool, true, false, Option, take, drop, length, List, [], ◌∷◌, ◌++◌, Some, None, refl, ap, ◌∙◌, sym, subst, arith, map, if◌then◌else◌}
-use Rattle.std.specs.Prelude.{slice_get, IsTrue, ◌↔◌, slice_index_or, option_map}
-use Rattle.std.specs.declared.boxed.Box.{Box}
-use Rattle.std.specs.declared.alloc.Global.{Global}
+use Rattle.std.proofs.{Common.{◌≡◌, ℕ, zero, suc, ◌+◌, ◌-◌, ◌<◌, ◌≤◌, Bool, true, false, Option, take, drop, length, List, [], ◌∷◌, ◌++◌, Some, None, refl, ap, ◌∙◌, sym, subst, arith, map, if◌then◌else◌}, lemmas.Option.{same_Some, none-some, slice_get_read, slice_get-map}, lemmas.Bool.{false≢true, true≢false}}
+use Rattle.std.specs.{Prelude.{slice_get, IsTrue, ◌↔◌, slice_index_or, option_map}, declared.boxed.Box.Box, declared.alloc.Global.Global}
 use Rattle.pc_tree.proofs.Views.{view_chain}
 use Rattle.pc_tree.specs.declared.expression.Expr.TheVariants as exprs
-use Rattle.pc_tree.specs.View.{expr_view, suffix_view, exprs_view}
-use Rattle.pc_emit.specs.declared.chains.First.{First}
+use Rattle.pc_tree.specs.{View.{expr_view, suffix_view, exprs_view}, declared.expression.Suffix.Suffix, declared.expression.Expr.Expr, declared.written_names.Name.Name, Parts.suffixes_of}
+use Rattle.pc_emit.specs.{declared.chains.First.First, declared.chains.Beginning.Beginning, Closing.{IsCut, IsBefore, BeginsChain, begun, first_of, IsSplit, written_end, object, taken, is_args, is_chain, is_empty_args, link_of, ReadsAtom, reading_rose, only, rest_of}}
 use Rattle.pc_emit.proofs.Walks.{map_drop, map_take, at_view}
-use Rattle.pc_tree.specs.declared.expression.Suffix.{Suffix}
-use Rattle.pc_tree.specs.declared.expression.Expr.{Expr}
-use Rattle.std.proofs.lemmas.Option.{same_Some, none-some, slice_get_read, slice_get-map}
-use Rattle.std.proofs.lemmas.Bool.{false≢true, true≢false}
-use Rattle.pc_caps.specs.declared.span.Span.{Span}
-use Rattle.pc_tree.specs.declared.written_names.Name.{Name}
+use Rattle.pc_base.specs.declared.span.Span.{Span}
 use Rattle.pc_tree.specs.Tree as t
 use Rattle.pc_core.specs.declared.nodes.NodeKind.TheVariants as node
 use Rattle.pc_body_spec.specs.Bodies.{Rose, expr_of, assign_of, chain_start, chain_of, named_of, roses_of_exprs, joined_span, apply, call, call_named, new_object_rose, read_field, read_name, read_type, use_field, use_other, create_name, apply_name, Use, read, write, Start, with_value, with_method, with_type, Context, Scope, Constructor, local, field, resolve, primitive, created, no_value, type_meaning, constructor_named, number_of_text}
 use Rattle.pc_emit.specs.declared.chains.First.TheVariants as first
-use Rattle.pc_emit.specs.declared.chains.Beginning.{Beginning}
 use Rattle.pc_emit.specs.declared.chains.Beginning.TheVariants as begins
 use Rattle.pc_emit.specs.declared.chains.Reading.TheVariants as reads
 use Rattle.pc_emit.specs.declared.chains.Atom.TheVariants as atoms
-use Rattle.pc_emit.specs.Closing.{IsCut, IsBefore, BeginsChain, begun, first_of, IsSplit, written_end, object, taken, is_args, is_chain, is_empty_args, link_of, ReadsAtom, reading_rose, only, rest_of}
-use Rattle.pc_lists.proofs.Cuts.{take_whole}
-use Rattle.pc_lists.proofs.Gets.{get_drop}
-use Rattle.pc_tree.specs.Parts.{suffixes_of}
+use Rattle.pc_base.proofs.{Cuts.take_whole, Gets.get_drop}
 
 take_at : {X : Type 0} → (xs : List X) (i : ℕ) (x : X) → slice_get xs i ≡ Some x → take (suc i) xs ≡ take i xs ++ x ∷ []
 take_at [] i x h = absurd (none-some x h)

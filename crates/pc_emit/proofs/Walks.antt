@@ -1,30 +1,15 @@
 -- Laws of the walk's loops.
-use Rattle.std.proofs.Common.{◌≡◌, rules, ℕ, zero, suc, ◌+◌, ◌<◌, ◌≤◌, drop, take, map, length, Bool, true, false, Option, List, [], ◌∷◌, ◌++◌, Some, None, refl, ap, ◌∙◌, sym, Result, Ok, Err, arith}
-use Rattle.std.specs.Prelude.{◌-◌, slice_get, slice_index_or, option_map}
-use Rattle.pc_caps.proofs.Lasts.{ends_nowhere, ends_with}
-use Rattle.std.specs.Result.{OnOk}
-use Rattle.std.proofs.lemmas.Option.{same_Some, none-some, slice_get_read, slice_get-map}
-use Rattle.pc_caps.specs.declared.span.Span.{Span}
-use Rattle.pc_core.specs.declared.nodes.Node.{Node}
-use Rattle.pc_core.specs.declared.nodes.NodeKind.{NodeKind}
+use Rattle.std.proofs.{Common.{◌≡◌, rules, ℕ, zero, suc, ◌+◌, ◌<◌, ◌≤◌, drop, take, map, length, Bool, true, false, Option, List, [], ◌∷◌, ◌++◌, Some, None, refl, ap, ◌∙◌, sym, Result, Ok, Err, arith}, lemmas.Option.{same_Some, none-some, slice_get_read, slice_get-map}, lemmas.List.{length-append, length-take, take-append-le}, lemmas.Bool.true≢false}
+use Rattle.std.specs.{Prelude.{◌-◌, slice_get, slice_index_or, option_map}, Result.OnOk}
+use Rattle.pc_base.proofs.Lasts.{ends_nowhere, ends_with}
+use Rattle.pc_base.specs.declared.span.Span.{Span}
+use Rattle.pc_core.specs.{declared.nodes.Node.Node, declared.nodes.NodeKind.NodeKind}
 use Rattle.pc_core.specs.declared.nodes.NodeKind.TheVariants as node
-use Rattle.pc_tree.specs.declared.kinds.Op.{Op}
-use Rattle.pc_tree.specs.declared.written_names.Name.{Name}
+use Rattle.pc_tree.specs.{declared.kinds.Op.Op, declared.written_names.Name.Name, View.{expr_view, exprs_view, arm_view, arms_view, seq_view, item_view, items_view}, declared.expression.Expr.{Expr, the_lemmas}, declared.expression.Arm.Arm, declared.expression.Item.Item, declared.expression.Seq.Seq}
 use Rattle.pc_tree.specs.Tree as t
-use Rattle.pc_tree.specs.View.{expr_view, exprs_view, arm_view, arms_view, seq_view, item_view, items_view}
-use Rattle.pc_tree.specs.declared.expression.Expr.{Expr, the_lemmas}
-use Rattle.pc_tree.specs.declared.expression.Arm.{Arm}
-use Rattle.pc_tree.specs.declared.expression.Item.{Item}
-use Rattle.std.proofs.lemmas.List.{length-append, length-take, take-append-le}
-use Rattle.pc_tree.specs.declared.expression.Seq.{Seq}
-use Rattle.std.proofs.lemmas.Bool.{true≢false}
-use Rattle.pc_body_spec.specs.Bodies.{Rose, Roses, rose, more, no_roses, two, three, and_last, expr_of, roses_of_exprs, assign_of, chain_of, named_of, write_name, read_field, call_named, apply, Start, chain_start, with_value, write, operands_of, operation, joined_span, or_added_none, sequence, if_of, Context, Scope, Meaning, local, field, method, nothing, resolve, scope_after, number_of_text}
-use Rattle.pc_body_spec.specs.Fold.{Numbered, and_then, put, puts, push}
-use Rattle.pc_emit.specs.declared.stop.EmitStop.{EmitStop}
+use Rattle.pc_body_spec.specs.{Bodies.{Rose, Roses, rose, more, no_roses, two, three, and_last, expr_of, roses_of_exprs, assign_of, chain_of, named_of, write_name, read_field, call_named, apply, Start, chain_start, with_value, write, operands_of, operation, joined_span, or_added_none, sequence, if_of, Context, Scope, Meaning, local, field, method, nothing, resolve, scope_after, number_of_text}, Fold.{Numbered, and_then, put, puts, push}}
+use Rattle.pc_emit.specs.{declared.stop.EmitStop.EmitStop, declared.waiting.Link.Link, Giving.GivesNodes, Closing.{TakesLast, closing, arm_after, arm_closes, none_closes, seq_closes, name_closes, names_none, is_missing, written_end, written_kind, begun_by, OpensInnerPart, OpensChain, OpensOne}}
 use Rattle.pc_emit.specs.declared.stop.EmitStop.TheVariants as stop
-use Rattle.pc_emit.specs.declared.waiting.Link.{Link}
-use Rattle.pc_emit.specs.Giving.{GivesNodes}
-use Rattle.pc_emit.specs.Closing.{TakesLast, closing, arm_after, arm_closes, none_closes, seq_closes, name_closes, names_none, is_missing, written_end, written_kind, begun_by, OpensInnerPart, OpensChain, OpensOne}
 
 pub on_ok : {A P : Type 0} (r : Result A EmitStop) → P → OnOk r P
 on_ok (Ok a) h = h

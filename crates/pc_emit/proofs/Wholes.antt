@@ -1,10 +1,9 @@
 -- The parts of a body, one after the other.
 use Rattle.std.proofs.Common.{◌≡◌, ℕ, List, [], ◌∷◌, ◌++◌, Bool, true, false, Some, None, refl, ap, ◌∙◌, sym, append_assoc}
-use Rattle.pc_caps.specs.declared.span.Span.{Span}
+use Rattle.pc_base.specs.declared.span.Span.{Span}
 use Rattle.pc_core.specs.declared.nodes.Node.{Node}
 use Rattle.pc_core.specs.declared.nodes.NodeKind.TheVariants as node
-use Rattle.pc_body_spec.specs.Bodies.{Rose, Roses, more, sequence, added_none, body_around, none_last}
-use Rattle.pc_body_spec.specs.Fold.{Numbered, and_then, put, puts, push}
+use Rattle.pc_body_spec.specs.{Bodies.{Rose, Roses, more, sequence, added_none, body_around, none_last}, Fold.{Numbered, and_then, put, puts, push}}
 use Rattle.pc_emit.specs.Closing.{behind_tops, ends_with, body_closes, seq_closes}
 use Rattle.pc_emit.proofs.Walks.{assoc, just, one_part, and_last_put, sequence_is}
 

@@ -1,9 +1,9 @@
 -- Pending nodes, which still need the number of a part.
 use Rattle.std.specs.Prelude.{ℕ, ◌-◌, ◌+◌, ◌≡◌, Bool, true, false, List, [], ◌∷◌, ◌++◌, Option, Some, None, Result, Ok, Err, take, drop, slice_get, if◌then◌else◌}
-use Rattle.pc_caps.specs.declared.span.Span.{Span}
+use Rattle.pc_base.specs.declared.span.Span.{Span}
 use Rattle.pc_core.specs.{declared.nodes.Node.Node, declared.nodes.NodeKind.NodeKind}
 use Rattle.pc_tree.specs.{declared.written_names.Name.Name, Kinds.none_entity, Parts.suffixes_of}
-use Rattle.pc_body_spec.specs.{Bodies.Rose, Bodies.rose, Bodies.leaf, Bodies.one, Bodies.two, Bodies.and_last, Bodies.joined_span, Bodies.gap, Bodies.value_then, Bodies.write_name, Bodies.expr_of, Bodies.roses_of_exprs, Bodies.chain_of, Bodies.Start, Bodies.with_value, Bodies.Use, Bodies.read, Bodies.write, Fold.Numbered, Fold.and_then, Fold.push, Bodies.Context, Bodies.Scope, Bodies.Meaning, Bodies.local, Bodies.field, Bodies.method, Bodies.nothing, Bodies.resolve, Bodies.number_of_text}
+use Rattle.pc_body_spec.specs.{Bodies.{Rose, rose, leaf, one, two, and_last, joined_span, gap, value_then, write_name, expr_of, roses_of_exprs, chain_of, Start, with_value, Use, read, write, Context, Scope, Meaning, local, field, method, nothing, resolve, number_of_text}, Fold.{Numbered, and_then, push}}
 use Rattle.pc_emit.specs.{declared.stop.EmitStop.EmitStop, declared.waiting.OpenArm.OpenArm, declared.waiting.Link.Link, declared.waiting.OpenChain.OpenChain, declared.chains.First.First, declared.chains.Beginning.Beginning, declared.chains.Reading.Reading, declared.chains.Atom.Atom}
 use Rattle.pc_core.specs.declared.nodes.NodeKind.TheVariants as node
 use Rattle.pc_tree.specs.Tree as t

@@ -1,7 +1,7 @@
 -- The result of a walk.
 use Rattle.std.specs.Prelude.{◌≡◌, ℕ, List, Option, Some, None, Result, Ok, Err}
 use Rattle.pc_core.specs.declared.nodes.Node.{Node}
-use Rattle.pc_body_spec.specs.{Bodies.Rose, Fold.Numbered, Fold.and_then, Fold.put}
+use Rattle.pc_body_spec.specs.{Bodies.Rose, Fold.{Numbered, and_then, put}}
 use Rattle.pc_emit.specs.declared.stop.EmitStop.{EmitStop}
 use Rattle.pc_emit.specs.declared.stop.EmitStop.TheVariants as stop
 

@@ -15,7 +15,7 @@ use crate::stop::EmitStop;
 use crate::tops::Tops;
 use crate::waiting::close_sequence;
 use crate::walk::{expr, items};
-use pc_caps::{List, Span};
+use pc_base::{List, Span};
 use pc_core::{Node, NodeKind};
 use pc_resolve::{Context, params_scope};
 use pc_tree::{Expr, FieldDef, MethodDef, MethodWord, NONE_ENTITY, Name, Seq, TypeRef};

@@ -14,7 +14,7 @@ use crate::name_nodes::object_kind;
 use crate::nodes::{leaf, single};
 use crate::setting::Setting;
 use crate::stop::EmitStop;
-use pc_caps::{List, Span};
+use pc_base::{List, Span};
 use pc_core::{Node, NodeKind};
 use pc_resolve::{Constructors, Context, Meaning, TypeMeaning, Visible};
 use pc_tree::{Expr, Name, Suffix};

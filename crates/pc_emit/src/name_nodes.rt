@@ -13,7 +13,7 @@ ghost use Rattle.pc_emit.specs.Closing.{name_closes};
 use crate::nodes::{double, gap, leaf, single};
 use crate::setting::Setting;
 use crate::stop::EmitStop;
-use pc_caps::{List, SharedList, Span};
+use pc_base::{List, SharedList, Span};
 use pc_core::{Node, NodeKind};
 use pc_resolve::{Constructors, Meaning, TypeMeaning, Visible, slot_of};
 use pc_tree::Name;

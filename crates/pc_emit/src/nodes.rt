@@ -7,7 +7,7 @@ ghost use Rattle.pc_emit.specs.Giving.{GivesNodes};
 use crate::setting::Setting;
 use crate::stop::EmitStop;
 use crate::tops::Tops;
-use pc_caps::{List, NODE_LIMIT, Span};
+use pc_base::{List, NODE_LIMIT, Span};
 use pc_core::{Children, Node, NodeKind};
 use pc_tree::Op;
 use std::alloc::{AllocError, Global};

@@ -9,7 +9,7 @@ use crate::nodes::{double, leaf, one, several, several_and, single};
 use crate::setting::Setting;
 use crate::stop::EmitStop;
 use crate::tops::Tops;
-use pc_caps::{List, Span};
+use pc_base::{List, Span};
 use pc_core::{Node, NodeKind};
 use pc_tree::NONE_ENTITY;
 

@@ -20,7 +20,7 @@ use crate::tops::Tops;
 use crate::waiting::{
     Link, OpenArm, OpenChain, call_this, close_arms, close_links, close_sequence, close_write,
 };
-use pc_caps::{List, ShortBytes, Span};
+use pc_base::{List, ShortBytes, Span};
 use pc_core::{Node, NodeKind};
 use pc_resolve::{Meaning, Visible};
 use pc_tree::{Arm, Expr, Item, NONE_ENTITY, Op, Seq, Suffix, join, span_of};

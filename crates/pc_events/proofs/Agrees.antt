@@ -2,20 +2,10 @@
 use Rattle.std.specs.Prelude.{◌≡◌, ◌<◌, ℕ, List, [], ◌∷◌, length, Option, Some, None, slice_get, refl}
 use Rattle.std.proofs.Common.{ap, subst, sym, length-set}
 use Rattle.pc_core.specs.CoreData.{CoreData}
-use Rattle.pc_lists.proofs.Gets.{get_within}
-use Rattle.pc_semantics.specs.declared.actors.Actor.{Actor}
-use Rattle.pc_semantics.specs.declared.frames.Frame.{Frame}
-use Rattle.pc_semantics.specs.declared.frames.Task.{Task}
-use Rattle.pc_semantics.specs.declared.mailbox.Message.{Message}
-use Rattle.pc_semantics.specs.declared.outcome.Outcome.{Outcome}
-use Rattle.pc_semantics.specs.declared.outcome.Outcome.TheVariants.{Moved, Skipped, Lacks, TooLong}
-use Rattle.pc_semantics.specs.Configurations.{Configuration, with_frames, Move, Stuck, Overflows, Goes, Writes, Makes, Spawns, Enters, Sends, Leaves}
-use Rattle.pc_semantics.specs.Step.{around, made, run_frames, take_first}
-use Rattle.pc_semantics.specs.Parts.{delivered, run_task, step_of, of_tasks, of_actor}
-use Rattle.pc_semantics.specs.Ahead.{by_move, by_outcome, of_frames}
+use Rattle.pc_base.proofs.Gets.{get_within}
+use Rattle.pc_semantics.specs.{declared.actors.Actor.Actor, declared.frames.Frame.Frame, declared.frames.Task.Task, declared.mailbox.Message.Message, declared.outcome.Outcome.Outcome, declared.outcome.Outcome.TheVariants.{Moved, Skipped, Lacks, TooLong}, Configurations.{Configuration, with_frames, Move, Stuck, Overflows, Goes, Writes, Makes, Spawns, Enters, Sends, Leaves}, Step.{around, made, run_frames, take_first}, Parts.{delivered, run_task, step_of, of_tasks, of_actor}, Ahead.{by_move, by_outcome, of_frames}}
 use Rattle.pc_events.specs.AheadLaws.{Agrees, AheadAgrees}
-use Rattle.pc_events.proofs.Right.{right}
-use Rattle.pc_events.proofs.Plans.{SendsTo, right_sends}
+use Rattle.pc_events.proofs.{Right.right, Plans.{SendsTo, right_sends}}
 
 there : (b c : Configuration) (j : ℕ) (m : Message) → j < length c.actors → (delivered b c j m (slice_get c.actors j)).0 ≡ Moved
 there b c j m l = let a = get_within c.actors j l in ap (λ (o : Option Actor). (delivered b c j m o).0) a.1

@@ -1,26 +1,13 @@
 -- What a step changes in the mailboxes, by its kind.
 use Rattle.std.specs.Prelude.{◌≡◌, ◌≢◌, ◌<◌, ◌≤◌, ℕ, zero, suc, Bool, true, false, List, [], ◌∷◌, ◌++◌, length, Option, Some, None, slice_get, refl}
-use Rattle.std.proofs.Common.{inl, inr, ap, sym, subst, ◌∙◌, arith}
-use Rattle.std.proofs.lemmas.Option.{same_Some, none-some}
-use Rattle.pc_core.specs.CoreData.{CoreData}
-use Rattle.pc_core.specs.declared.declarations.Method.{Method}
-use Rattle.pc_heap.specs.declared.value.Value.{Value}
-use Rattle.pc_heap.specs.declared.value.Value.TheVariants.{Text}
-use Rattle.pc_semantics.specs.declared.actors.Actor.{Actor}
-use Rattle.pc_semantics.specs.declared.frames.Frame.{Frame}
-use Rattle.pc_semantics.specs.declared.mailbox.Message.{Message}
-use Rattle.pc_semantics.specs.Configurations.{Configuration, Move, Stuck, Overflows, Goes, Writes, Makes, Spawns, Enters, Sends, Leaves}
-use Rattle.pc_semantics.specs.Step.{left}
-use Rattle.pc_semantics.specs.declared.ahead.Ahead.{Ahead}
+use Rattle.std.proofs.{Common.{inl, inr, ap, sym, subst, ◌∙◌, arith}, lemmas.Option.{same_Some, none-some}}
+use Rattle.pc_core.specs.{CoreData.CoreData, declared.declarations.Method.Method}
+use Rattle.pc_heap.specs.{declared.value.Value.Value, declared.value.Value.TheVariants.Text}
+use Rattle.pc_semantics.specs.{declared.actors.Actor.Actor, declared.frames.Frame.Frame, declared.mailbox.Message.Message, Configurations.{Configuration, Move, Stuck, Overflows, Goes, Writes, Makes, Spawns, Enters, Sends, Leaves}, Step.left, declared.ahead.Ahead.Ahead, Ahead.{by_move, ahead_of}}
 use Rattle.pc_semantics.specs.declared.ahead.Ahead.TheVariants as ahead
-use Rattle.pc_semantics.specs.Ahead.{by_move, ahead_of}
-use Rattle.pc_events.proofs.Changes.{Same, Sets, New, changed, going, pushing, born, sent, spawned, Change, acted, applied, local, on_heap, planned, plan_print, plan_begun, plan_begin, plan_message, plan}
-use Rattle.pc_events.proofs.Lists.{length_changed, get_changed, get_unchanged}
-use Rattle.pc_events.proofs.Plans.{view}
-use Rattle.pc_events.proofs.Told.{Told, told, ahead_is}
-use Rattle.pc_lists.proofs.Gets.{get_within, get_behind}
+use Rattle.pc_events.proofs.{Changes.{Same, Sets, New, changed, going, pushing, born, sent, spawned, Change, acted, applied, local, on_heap, planned, plan_print, plan_begun, plan_begin, plan_message, plan}, Lists.{length_changed, get_changed, get_unchanged}, Plans.view, Told.{Told, told, ahead_is}, Outcomes.taking_ahead}
+use Rattle.pc_base.proofs.Gets.{get_within, get_behind}
 use Rattle.pc_events.specs.Before.{waiting_of, waiting_for}
-use Rattle.pc_events.proofs.Outcomes.{taking_ahead}
 
 -- ---- the mailboxes of a list of actors
 

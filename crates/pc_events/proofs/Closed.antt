@@ -1,35 +1,12 @@
 -- Each configuration that a run leads to is like itself: it mentions no actor that does not exist.
-use Rattle.std.specs.Prelude.{◌≡◌, ◌<◌, ℕ, zero, suc, ◌+◌, List, [], ◌∷◌, ◌++◌, take, length, Option, Some, None, slice_get, refl}
-use Rattle.std.proofs.Common.{inl, inr, ap, sym, subst, ◌∙◌, arith}
-use Rattle.std.proofs.lemmas.Option.{same_Some, none-some}
-use Rattle.std.proofs.lemmas.List.{append-nil}
-use Rattle.std.specs.FinMap.{get, insert, empty, get-empty}
-use Rattle.pc_lists.proofs.Gets.{get_push}
-use Rattle.pc_heap.specs.Objects.{address_cmp, ObjectMap, class_at, Object}
-use Rattle.pc_heap.specs.Parts.{field_in}
-use Rattle.pc_heap.specs.Fields.{field_at}
-use Rattle.pc_heap.specs.declared.value.Address.{Address}
-use Rattle.pc_heap.specs.declared.value.Value.TheVariants.{At}
+use Rattle.std.specs.{Prelude.{◌≡◌, ◌<◌, ℕ, zero, suc, ◌+◌, List, [], ◌∷◌, ◌++◌, take, length, Option, Some, None, slice_get, refl}, FinMap.{get, insert, empty, get-empty}}
+use Rattle.std.proofs.{Common.{inl, inr, ap, sym, subst, ◌∙◌, arith}, lemmas.Option.{same_Some, none-some}, lemmas.List.append-nil}
+use Rattle.pc_base.proofs.Gets.{get_push}
+use Rattle.pc_heap.specs.{Objects.{address_cmp, ObjectMap, class_at, Object}, Parts.field_in, Fields.field_at, declared.value.Address.Address, declared.value.Value.TheVariants.At}
 use Rattle.pc_core.specs.CoreData.{CoreData}
-use Rattle.pc_semantics.specs.declared.actors.Actor.{Actor}
-use Rattle.pc_semantics.specs.declared.outcome.Outcome.{Outcome}
-use Rattle.pc_semantics.specs.declared.outcome.Outcome.TheVariants.{Moved, Skipped, Lacks, TooLong}
-use Rattle.pc_semantics.specs.Configurations.{Configuration, own_address, environment_address, environment, blank_object, main_create, start_of, start}
-use Rattle.pc_semantics.specs.Parts.{number_of_fields}
-use Rattle.pc_semantics.specs.Step.{step, followed, outcomes}
-use Rattle.pc_semantics.specs.Safety.{LacksNothing, Safe}
-use Rattle.pc_events.specs.Before.{at_place, takes_one, taken_before}
-use Rattle.pc_events.specs.Counting.{Live}
-use Rattle.pc_events.proofs.Changes.{Change, left_mail, applied, plan}
-use Rattle.pc_events.proofs.Maps.{address_cases, get_here, get_other}
-use Rattle.pc_events.proofs.Plans.{view, plans, step_is}
-use Rattle.pc_events.proofs.Told.{told}
-use Rattle.pc_events.proofs.Reach.{Placed, fits, after_placed}
-use Rattle.pc_events.proofs.Like.{AddressLike, SlotsLike, FoundLike, empty_slots, slots_get, slots_set}
-use Rattle.pc_events.proofs.Sim.{MailLike, Marks, Clean, Status, Sim}
-use Rattle.pc_events.proofs.SimBoth.{both_go}
-use Rattle.pc_events.proofs.SimEvent.{Followed, event_goes}
-use Rattle.pc_events.proofs.Outcomes.{turn, own_next, other_next, skipped_next}
+use Rattle.pc_semantics.specs.{declared.actors.Actor.Actor, declared.outcome.Outcome.Outcome, declared.outcome.Outcome.TheVariants.{Moved, Skipped, Lacks, TooLong}, Configurations.{Configuration, own_address, environment_address, environment, blank_object, main_create, start_of, start}, Parts.number_of_fields, Step.{step, followed, outcomes}, Safety.{LacksNothing, Safe}}
+use Rattle.pc_events.specs.{Before.{at_place, takes_one, taken_before}, Counting.Live}
+use Rattle.pc_events.proofs.{Changes.{Change, left_mail, applied, plan}, Maps.{address_cases, get_here, get_other}, Plans.{view, plans, step_is}, Told.told, Reach.{Placed, fits, after_placed}, Like.{AddressLike, SlotsLike, FoundLike, empty_slots, slots_get, slots_set}, Sim.{MailLike, Marks, Clean, Status, Sim}, SimBoth.both_go, SimEvent.{Followed, event_goes}, Outcomes.{turn, own_next, other_next, skipped_next}}
 
 -- Other numbers that are the same.
 pub sim_front : (marks : Marks) (front next : ℕ → ℕ) (c d : Configuration) (names : List ℕ) → ((k : ℕ) → next k ≡ front k) → Sim marks front c d names → Sim marks next c d names

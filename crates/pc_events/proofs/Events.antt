@@ -1,20 +1,11 @@
 -- The events of an actor, counted.
 use Rattle.std.specs.Prelude.{◌≡◌, ◌<◌, ◌≤◌, ℕ, zero, suc, ◌+◌, ◌-◌, Bool, true, false, ◌&&◌, cond, List, [], ◌∷◌, ◌++◌, length, take, Option, Some, None, slice_get, refl}
-use Rattle.std.proofs.Common.{inl, inr, ap, sym, subst, ◌∙◌, arith}
-use Rattle.std.proofs.lemmas.Option.{same_Some, none-some}
-use Rattle.std.proofs.lemmas.Bool.{eq-eqb}
-use Rattle.std.proofs.lemmas.Bool.Decides.{eqb_tells, leb_tells}
-use Rattle.std.proofs.lemmas.List.{length-append, length-take-le, append-nil}
-use Rattle.pc_lists.specs.Counts.{one_if}
-use Rattle.pc_lists.specs.Lists.{Ascends}
-use Rattle.pc_lists.proofs.Gets.{get_front, get_behind, get_push, get_take, take_get}
+use Rattle.std.proofs.{Common.{inl, inr, ap, sym, subst, ◌∙◌, arith}, lemmas.Option.{same_Some, none-some}, lemmas.Bool.eq-eqb, lemmas.Bool.Decides.{eqb_tells, leb_tells}, lemmas.List.{length-append, length-take-le, append-nil}}
+use Rattle.pc_base.specs.{Counts.one_if, Lists.Ascends}
+use Rattle.pc_base.proofs.Gets.{get_front, get_behind, get_push, get_take, take_get}
 use Rattle.pc_core.specs.CoreData.{CoreData}
-use Rattle.pc_semantics.specs.declared.outcome.Outcome.{Outcome}
-use Rattle.pc_semantics.specs.declared.outcome.Outcome.TheVariants.{Moved, Skipped, Lacks, TooLong}
-use Rattle.pc_semantics.specs.Step.{outcomes}
-use Rattle.pc_events.specs.Before.{Event}
-use Rattle.pc_events.specs.Clock.{Clock}
-use Rattle.pc_events.specs.Counting.{has_actor, has_moved, is_event, index, Counts, AtOrBefore}
+use Rattle.pc_semantics.specs.{declared.outcome.Outcome.Outcome, declared.outcome.Outcome.TheVariants.{Moved, Skipped, Lacks, TooLong}, Step.outcomes}
+use Rattle.pc_events.specs.{Before.Event, Clock.Clock, Counting.{has_actor, has_moved, is_event, index, Counts, AtOrBefore}}
 use Rattle.pc_events.proofs.Order.{before_is_earlier}
 
 -- ---- whether a place is one of an actor's events

@@ -1,34 +1,13 @@
 -- The other's change leaves an actor's plan unchanged.
 use Rattle.std.specs.Prelude.{◌≡◌, ◌≢◌, ◌≤◌, ℕ, ◌+◌, Bool, true, List, [], ◌∷◌, ◌++◌, length, Option, Some, None, slice_get, nat_lt, refl}
-use Rattle.std.proofs.Common.{inl, inr, ap, sym, subst, ◌∙◌, arith, length-append}
-use Rattle.std.proofs.lemmas.Option.{same_Some, none-some}
-use Rattle.std.proofs.lemmas.List.{append-nil}
-use Rattle.std.proofs.lemmas.Bool.{ltb-true, lt-ltb}
-use Rattle.std.proofs.lemmas.Bool.Decides.{eqb_tells}
-use Rattle.pc_lists.proofs.Gets.{get_front}
-use Rattle.pc_heap.specs.Objects.{ObjectMap, class_at}
-use Rattle.pc_heap.specs.declared.value.Address.{Address}
-use Rattle.pc_heap.specs.declared.value.Value.{Value}
-use Rattle.pc_heap.specs.declared.value.Value.TheVariants.{At}
-use Rattle.pc_lists.specs.Lists.{◌>>=◌}
+use Rattle.std.proofs.{Common.{inl, inr, ap, sym, subst, ◌∙◌, arith, length-append}, lemmas.Option.{same_Some, none-some}, lemmas.List.append-nil, lemmas.Bool.{ltb-true, lt-ltb}, lemmas.Bool.Decides.eqb_tells}
+use Rattle.pc_base.proofs.Gets.{get_front}
+use Rattle.pc_heap.specs.{Objects.{ObjectMap, class_at}, declared.value.Address.Address, declared.value.Value.Value, declared.value.Value.TheVariants.At}
+use Rattle.pc_base.specs.Lists.{◌>>=◌}
 use Rattle.pc_core.specs.CoreData.{field_named, CoreData}
-use Rattle.pc_semantics.specs.declared.access.Access.{Access}
-use Rattle.pc_semantics.specs.declared.actors.Actor.{Actor}
-use Rattle.pc_semantics.specs.declared.frames.Frame.{Frame}
-use Rattle.pc_semantics.specs.declared.mailbox.Message.{Message}
-use Rattle.pc_semantics.specs.Configurations.{Configuration, Move, Stuck, Spawns}
-use Rattle.pc_semantics.specs.Step.{task_move}
-use Rattle.pc_semantics.specs.Safety.{touched_name, access, Race}
+use Rattle.pc_semantics.specs.{declared.access.Access.Access, declared.actors.Actor.Actor, declared.frames.Frame.Frame, declared.mailbox.Message.Message, Configurations.{Configuration, Move, Stuck, Spawns}, Step.task_move, Safety.{touched_name, access, Race}, Ahead.{by_move, ahead_of}}
 use Rattle.pc_semantics.specs.declared.ahead.Ahead.TheVariants as ahead
-use Rattle.pc_semantics.specs.Ahead.{by_move, ahead_of}
-use Rattle.pc_events.proofs.Changes.{Heaping, Same, Sets, New, changed, going, pushing, born, sent, spawned, Change, acted, applied, planned, plan_first, plan_message, plan_tasks, plan_frames, plan_actor, plan}
-use Rattle.pc_events.proofs.Lists.{get_changed, get_unchanged}
-use Rattle.pc_events.proofs.Maps.{Fit, NotBy, Touches, class_kept, field_kept, made_kept}
-use Rattle.pc_events.proofs.Right.{touch, touch_by}
-use Rattle.pc_events.proofs.Stable.{NotStuck, Kept, stable, spawn_ahead}
-use Rattle.pc_events.proofs.Plans.{Running, Taking, view}
-use Rattle.pc_events.proofs.Told.{Told, HeapTold, SpawnTold, told, access_is, ahead_is}
-use Rattle.pc_events.proofs.Pass.{length_acted}
+use Rattle.pc_events.proofs.{Changes.{Heaping, Same, Sets, New, changed, going, pushing, born, sent, spawned, Change, acted, applied, planned, plan_first, plan_message, plan_tasks, plan_frames, plan_actor, plan}, Lists.{get_changed, get_unchanged}, Maps.{Fit, NotBy, Touches, class_kept, field_kept, made_kept}, Right.{touch, touch_by}, Stable.{NotStuck, Kept, stable, spawn_ahead}, Plans.{Running, Taking, view}, Told.{Told, HeapTold, SpawnTold, told, access_is, ahead_is}, Pass.length_acted}
 
 -- ---- what is touched is there
 

@@ -1,34 +1,16 @@
 -- Tasks that see nothing but their frame make like moves in like frames.
 use Rattle.std.specs.Prelude.{◌≡◌, ℕ, zero, suc, Bool, true, false, not, ◌&&◌, if◌then◌else◌, nat_eq, nat_lt, List, [], ◌∷◌, ◌++◌, length, Option, Some, None, slice_get, refl, ⊤}
-use Rattle.std.proofs.Common.{inl, inr, ap, sym, subst, ◌∙◌}
-use Rattle.std.proofs.lemmas.Option.{same_Some}
-use Rattle.std.proofs.lemmas.Bool.{eq-eqb, ne_eqb}
-use Rattle.std.proofs.lemmas.Bool.Decides.{eqb_tells}
-use Rattle.pc_heap.specs.declared.value.Address.{Address}
-use Rattle.pc_heap.specs.declared.value.Value.{Value}
-use Rattle.pc_heap.specs.declared.value.Value.TheVariants.{Num, Truth, Text, Prim, At}
+use Rattle.std.proofs.{Common.{inl, inr, ap, sym, subst, ◌∙◌}, lemmas.Option.same_Some, lemmas.Bool.{eq-eqb, ne_eqb}, lemmas.Bool.Decides.eqb_tells}
+use Rattle.pc_heap.specs.{declared.value.Address.Address, declared.value.Value.Value, declared.value.Value.TheVariants.{Num, Truth, Text, Prim, At}}
 use Rattle.pc_tree.specs.declared.kinds.Op.{Op}
 use Rattle.pc_tree.specs.declared.kinds.Op.TheVariants as op
-use Rattle.pc_core.specs.CoreData.{CoreData}
-use Rattle.pc_core.specs.declared.declarations.Method.{Method}
-use Rattle.pc_core.specs.declared.declarations.MethodKind.{MethodKind}
+use Rattle.pc_core.specs.{CoreData.CoreData, declared.declarations.Method.Method, declared.declarations.MethodKind.MethodKind, declared.nodes.Node.Node, declared.nodes.NodeKind.NodeKind}
 use Rattle.pc_core.specs.declared.declarations.MethodKind.TheVariants as method
-use Rattle.pc_core.specs.declared.nodes.Node.{Node}
-use Rattle.pc_core.specs.declared.nodes.NodeKind.{NodeKind}
 use Rattle.pc_core.specs.declared.nodes.NodeKind.TheVariants as node
-use Rattle.pc_semantics.specs.declared.frames.Frame.{Frame}
-use Rattle.pc_semantics.specs.declared.frames.Task.{Task}
+use Rattle.pc_semantics.specs.{declared.frames.Frame.Frame, declared.frames.Task.Task, declared.outcome.Lack.Lack, Configurations.{Around, Move, Stuck, Overflows, Goes, Writes, Makes, Spawns, Enters, Sends, Leaves, with_stack, pushed, with_slot, doing, none, pop, popped, pop_arguments}, Parts.{value_or_none, with_top, with_popped, push_slot, take_slot, evaluate_node, push_or_lack, with_second_number, with_truth, with_text, negated, same_address, is_number, is_truth, is_text, is_primitive, is_object, compared, held, leave_object, return_task, at_node}, Children.evaluations, Evaluation.{first_then, evaluate, item_tasks, truth, apply_task, right_side, test_and, test_or, test_task, branch, loop_turn, of_numbers, of_truths, of_texts, binary, same_truth, same_value}, Calls.{store, store_task, leave}, Step.task_move}
 use Rattle.pc_semantics.specs.declared.frames.Task.TheVariants as task
-use Rattle.pc_semantics.specs.declared.outcome.Lack.{Lack}
-use Rattle.pc_semantics.specs.Configurations.{Around, Move, Stuck, Overflows, Goes, Writes, Makes, Spawns, Enters, Sends, Leaves, with_stack, pushed, with_slot, doing, none, pop, popped, pop_arguments}
-use Rattle.pc_semantics.specs.Parts.{value_or_none, with_top, with_popped, push_slot, take_slot, evaluate_node, push_or_lack, with_second_number, with_truth, with_text, negated, same_address, is_number, is_truth, is_text, is_primitive, is_object, compared, held, leave_object, return_task, at_node}
-use Rattle.pc_semantics.specs.Children.{evaluations}
-use Rattle.pc_semantics.specs.Evaluation.{first_then, evaluate, item_tasks, truth, apply_task, right_side, test_and, test_or, test_task, branch, loop_turn, of_numbers, of_truths, of_texts, binary, same_truth, same_value}
-use Rattle.pc_caps.specs.Limits.{text_limit}
-use Rattle.pc_semantics.specs.Calls.{store, store_task, leave}
-use Rattle.pc_semantics.specs.Step.{task_move}
-use Rattle.pc_events.proofs.Like.{AddressLike, Like, SlotLike, Likes, FrameLike, FoundLike, slots_get, slots_set, MoveLike}
-use Rattle.pc_events.proofs.Plain.{Blind}
+use Rattle.pc_base.specs.Limits.{text_limit}
+use Rattle.pc_events.proofs.{Like.{AddressLike, Like, SlotLike, Likes, FrameLike, FoundLike, slots_get, slots_set, MoveLike}, Plain.Blind}
 
 pub left_stuck : (names : List ℕ) (next : ℕ) (m : Move) (l : Lack) → MoveLike names next m (Stuck l)
 left_stuck names next (Stuck k) l = tt

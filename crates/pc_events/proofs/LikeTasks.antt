@@ -1,37 +1,16 @@
 -- Every task makes like moves in like frames among like objects.
-use Rattle.std.specs.Prelude.{◌≡◌, ◌<◌, ℕ, suc, ◌-◌, ◌&&◌, Bool, true, false, if◌then◌else◌, nat_eq, nat_lt, List, [], ◌∷◌, ◌++◌, map, length, replicate, Option, Some, None, slice_get, refl}
-use Rattle.std.proofs.Common.{ap, sym, subst, ◌∙◌}
-use Rattle.std.proofs.lemmas.Option.{same_Some}
-use Rattle.std.proofs.lemmas.Bool.{and_parts, lt-ltb}
-use Rattle.std.specs.FinMap.{get}
-use Rattle.pc_lists.proofs.Gets.{get_behind}
-use Rattle.pc_heap.specs.Objects.{ObjectMap, class_at, made_by, next_address, Object}
-use Rattle.pc_heap.specs.Parts.{class_in, field_in}
-use Rattle.pc_heap.specs.Fields.{field_at}
-use Rattle.pc_heap.specs.declared.value.Address.{Address}
-use Rattle.pc_heap.specs.declared.value.Value.{Value}
-use Rattle.pc_heap.specs.declared.value.Value.TheVariants.{Num, Truth, Text, Prim, At}
-use Rattle.pc_core.specs.CoreData.{field_named, method_named, CoreData}
-use Rattle.pc_lists.specs.Lists.{◌>>=◌}
-use Rattle.pc_core.specs.declared.declarations.Method.{Method}
-use Rattle.pc_core.specs.declared.declarations.MethodKind.{MethodKind}
+use Rattle.std.specs.{Prelude.{◌≡◌, ◌<◌, ℕ, suc, ◌-◌, ◌&&◌, Bool, true, false, if◌then◌else◌, nat_eq, nat_lt, List, [], ◌∷◌, ◌++◌, map, length, replicate, Option, Some, None, slice_get, refl}, FinMap.get}
+use Rattle.std.proofs.{Common.{ap, sym, subst, ◌∙◌}, lemmas.Option.same_Some, lemmas.Bool.{and_parts, lt-ltb}}
+use Rattle.pc_base.proofs.Gets.{get_behind}
+use Rattle.pc_heap.specs.{Objects.{ObjectMap, class_at, made_by, next_address, Object}, Parts.{class_in, field_in}, Fields.field_at, declared.value.Address.Address, declared.value.Value.Value, declared.value.Value.TheVariants.{Num, Truth, Text, Prim, At}}
+use Rattle.pc_core.specs.{CoreData.{field_named, method_named, CoreData}, declared.declarations.Method.Method, declared.declarations.MethodKind.MethodKind, declared.nodes.Node.Node, declared.nodes.NodeKind.NodeKind}
+use Rattle.pc_base.specs.Lists.{◌>>=◌}
 use Rattle.pc_core.specs.declared.declarations.MethodKind.TheVariants as method
-use Rattle.pc_core.specs.declared.nodes.Node.{Node}
-use Rattle.pc_core.specs.declared.nodes.NodeKind.{NodeKind}
 use Rattle.pc_core.specs.declared.nodes.NodeKind.TheVariants as node
-use Rattle.pc_semantics.specs.declared.access.Access.{Access}
-use Rattle.pc_semantics.specs.declared.frames.Frame.{Frame}
-use Rattle.pc_semantics.specs.declared.frames.Task.{Task}
+use Rattle.pc_semantics.specs.{declared.access.Access.Access, declared.frames.Frame.Frame, declared.frames.Task.Task, Configurations.{blank_object, own_address, Around, Move, Stuck, with_stack, none, pop, value_entity, first_frame}, Parts.{number_of_fields, with_top, get_value, get_field, get_of, get_from, put_value, put_field, put_of, put_into, begin_new, make_of, spawn_of, enter, send, push_text, invoke_found, invoke_method, invoke_on, at_node}, Calls.{get_task, put_task, counted, make_task, spawn_task, invoke_kind, string_of, is_string, text_of, invoke_task}, Step.task_move, Safety.{name_read, name_written, touched_name}}
 use Rattle.pc_semantics.specs.declared.frames.Task.TheVariants as task
 use Rattle.pc_semantics.specs.declared.outcome.Lack.TheVariants as lack
-use Rattle.pc_semantics.specs.Configurations.{blank_object, own_address, Around, Move, Stuck, with_stack, none, pop, value_entity, first_frame}
-use Rattle.pc_semantics.specs.Parts.{number_of_fields, with_top, get_value, get_field, get_of, get_from, put_value, put_field, put_of, put_into, begin_new, make_of, spawn_of, enter, send, push_text, invoke_found, invoke_method, invoke_on, at_node}
-use Rattle.pc_semantics.specs.Calls.{get_task, put_task, counted, make_task, spawn_task, invoke_kind, string_of, is_string, text_of, invoke_task}
-use Rattle.pc_semantics.specs.Step.{task_move}
-use Rattle.pc_semantics.specs.Safety.{name_read, name_written, touched_name}
-use Rattle.pc_events.proofs.Right.{touch, touch_by}
-use Rattle.pc_events.proofs.Like.{AddressLike, Like, Likes, SlotsLike, FrameLike, FoundLike, ObjectLike, empty_slots, likes_length, first_slots_like, frame_more, MoveLike}
-use Rattle.pc_events.proofs.LikeBasic.{left_stuck, stack_like, pushed_like, top_like, pop_like, arguments_like, nodes_like, held_like, blind_like}
+use Rattle.pc_events.proofs.{Right.{touch, touch_by}, Like.{AddressLike, Like, Likes, SlotsLike, FrameLike, FoundLike, ObjectLike, empty_slots, likes_length, first_slots_like, frame_more, MoveLike}, LikeBasic.{left_stuck, stack_like, pushed_like, top_like, pop_like, arguments_like, nodes_like, held_like, blind_like}}
 
 module _ (core : CoreData) (names : List ℕ) (h h2 : ObjectMap) (i i2 n n2 : ℕ) where
   abbrev one : Around

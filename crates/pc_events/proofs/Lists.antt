@@ -1,7 +1,6 @@
 -- Lists that are changed at one place.
 use Rattle.std.specs.Prelude.{◌≡◌, ◌≢◌, ℕ, zero, suc, ◌<◌, List, [], ◌∷◌, ◌++◌, length, Some, slice_get, slice_set, refl}
-use Rattle.std.proofs.Common.{ap, sym, arith}
-use Rattle.std.proofs.lemmas.Option.{same_Some, none-some}
+use Rattle.std.proofs.{Common.{ap, sym, arith}, lemmas.Option.{same_Some, none-some}}
 use Rattle.pc_semantics.specs.declared.actors.Actor.{Actor}
 use Rattle.pc_events.proofs.Changes.{changed}
 

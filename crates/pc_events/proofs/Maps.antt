@@ -1,21 +1,10 @@
 -- Objects that are set and made.
-use Rattle.std.specs.Prelude.{◌≡◌, ◌≢◌, ◌⊎◌, ℕ, ◌+◌, Bool, List, true, false, cond, nat_eq, Option, Some, None, slice_get, refl, ⊤}
-use Rattle.std.proofs.Common.{inl, inr, ap, sym, subst, ◌∙◌, arith}
-use Rattle.std.proofs.lemmas.Option.{none-some}
-use Rattle.std.proofs.lemmas.Bool.{ne_eqb}
-use Rattle.std.proofs.lemmas.List.{set_comm}
-use Rattle.std.specs.Ordering.{eq_by_cmp}
-use Rattle.std.specs.FinMap.{get, insert, get-insert, same_map}
-use Rattle.std.proofs.lemmas.Map.Views.{tells_apart}
-use Rattle.pc_heap.specs.Objects.{address_cmp, ObjectMap, made_by, class_at, with_field, with_value, Object}
-use Rattle.pc_heap.specs.Parts.{class_in, object_in, field_in}
-use Rattle.pc_heap.specs.Fields.{field_at}
-use Rattle.pc_heap.proofs.Maps.{addresses_total, exact_addresses, get_own, tied_own}
-use Rattle.pc_lists.specs.Counts.{one_if}
-use Rattle.pc_heap.proofs.Counts.{made_more, made_same}
-use Rattle.pc_heap.specs.declared.value.Address.{Address}
-use Rattle.pc_heap.specs.declared.value.Value.{Value}
-use Rattle.pc_lists.proofs.Gets.{get_set_other}
+use Rattle.std.specs.{Prelude.{◌≡◌, ◌≢◌, ◌⊎◌, ℕ, ◌+◌, Bool, List, true, false, cond, nat_eq, Option, Some, None, slice_get, refl, ⊤}, Ordering.eq_by_cmp, FinMap.{get, insert, get-insert, same_map}}
+use Rattle.std.proofs.{Common.{inl, inr, ap, sym, subst, ◌∙◌, arith}, lemmas.Option.none-some, lemmas.Bool.ne_eqb, lemmas.List.set_comm, lemmas.Map.Views.tells_apart}
+use Rattle.pc_heap.specs.{Objects.{address_cmp, ObjectMap, made_by, class_at, with_field, with_value, Object}, Parts.{class_in, object_in, field_in}, Fields.field_at, declared.value.Address.Address, declared.value.Value.Value}
+use Rattle.pc_heap.proofs.{Maps.{addresses_total, exact_addresses, get_own, tied_own}, Counts.{made_more, made_same}}
+use Rattle.pc_base.specs.Counts.{one_if}
+use Rattle.pc_base.proofs.Gets.{get_set_other}
 use Rattle.pc_events.proofs.Changes.{Heaping, Same, Sets, New, heaped}
 
 -- ---- insertions

@@ -1,36 +1,11 @@
 -- A step changes no field except the one that its actor was about to write.
-use Rattle.std.specs.Prelude.{◌≡◌, ◌≢◌, ◌⊎◌, ℕ, zero, suc, true, List, [], ◌∷◌, replicate, Option, Some, None, slice_get, refl, ⊤}
-use Rattle.std.proofs.Common.{inl, inr, ap, sym, subst, ◌∙◌}
-use Rattle.std.proofs.lemmas.Option.{same_Some, none-some}
-use Rattle.std.proofs.lemmas.Bool.Decides.{eqb_tells}
-use Rattle.std.specs.FinMap.{get}
-use Rattle.pc_heap.specs.Objects.{ObjectMap, class_at, Object}
-use Rattle.pc_heap.specs.Parts.{class_in, field_in, value_in}
-use Rattle.pc_heap.specs.Fields.{field_at, value_at}
-use Rattle.pc_heap.specs.declared.value.Address.{Address}
-use Rattle.pc_heap.specs.declared.value.Value.{Value}
-use Rattle.pc_heap.specs.declared.value.Value.TheVariants.{Text}
-use Rattle.pc_core.specs.CoreData.{CoreData}
-use Rattle.pc_core.specs.declared.declarations.Method.{Method}
-use Rattle.pc_semantics.specs.declared.frames.Frame.{Frame}
-use Rattle.pc_semantics.specs.declared.frames.Task.{Task}
-use Rattle.pc_semantics.specs.declared.mailbox.Message.{Message}
-use Rattle.pc_semantics.specs.declared.outcome.Lack.{Lack}
-use Rattle.pc_semantics.specs.declared.outcome.Outcome.{Outcome}
-use Rattle.pc_semantics.specs.declared.outcome.Outcome.TheVariants.{Moved, Skipped, Lacks, TooLong}
-use Rattle.pc_semantics.specs.Configurations.{Configuration, Move, Stuck, Overflows, Goes, Writes, Makes, Spawns, Enters, Sends, Leaves}
-use Rattle.pc_semantics.specs.Parts.{number_of_fields}
-use Rattle.pc_semantics.specs.Step.{step, after}
-use Rattle.pc_semantics.specs.Safety.{access}
-use Rattle.pc_semantics.specs.Laws.{OnlyMovesChange}
-use Rattle.pc_events.specs.Accesses.{OnlyAccessed}
-use Rattle.pc_events.specs.AheadLaws.{OnlyAccessesTouchFields}
-use Rattle.pc_events.proofs.Changes.{Heaping, Same, Sets, New, heaped, Change, applied, planned, plan_print, plan_begun, plan_begin, plan_message, plan}
-use Rattle.pc_events.proofs.Maps.{address_cases, get_here, get_other, Fit, class_kept, field_kept}
-use Rattle.pc_events.proofs.Right.{Blank, Right, right}
-use Rattle.pc_events.proofs.Plans.{view, plans, step_is}
-use Rattle.pc_events.proofs.Told.{Told, HeapTold, told}
-use Rattle.pc_events.proofs.Reach.{Placed, fits, after_placed}
+use Rattle.std.specs.{Prelude.{◌≡◌, ◌≢◌, ◌⊎◌, ℕ, zero, suc, true, List, [], ◌∷◌, replicate, Option, Some, None, slice_get, refl, ⊤}, FinMap.get}
+use Rattle.std.proofs.{Common.{inl, inr, ap, sym, subst, ◌∙◌}, lemmas.Option.{same_Some, none-some}, lemmas.Bool.Decides.eqb_tells}
+use Rattle.pc_heap.specs.{Objects.{ObjectMap, class_at, Object}, Parts.{class_in, field_in, value_in}, Fields.{field_at, value_at}, declared.value.Address.Address, declared.value.Value.Value, declared.value.Value.TheVariants.Text}
+use Rattle.pc_core.specs.{CoreData.CoreData, declared.declarations.Method.Method}
+use Rattle.pc_semantics.specs.{declared.frames.Frame.Frame, declared.frames.Task.Task, declared.mailbox.Message.Message, declared.outcome.Lack.Lack, declared.outcome.Outcome.Outcome, declared.outcome.Outcome.TheVariants.{Moved, Skipped, Lacks, TooLong}, Configurations.{Configuration, Move, Stuck, Overflows, Goes, Writes, Makes, Spawns, Enters, Sends, Leaves}, Parts.number_of_fields, Step.{step, after}, Safety.access, Laws.OnlyMovesChange}
+use Rattle.pc_events.specs.{Accesses.OnlyAccessed, AheadLaws.OnlyAccessesTouchFields}
+use Rattle.pc_events.proofs.{Changes.{Heaping, Same, Sets, New, heaped, Change, applied, planned, plan_print, plan_begun, plan_begin, plan_message, plan}, Maps.{address_cases, get_here, get_other, Fit, class_kept, field_kept}, Right.{Blank, Right, right}, Plans.{view, plans, step_is}, Told.{Told, HeapTold, told}, Reach.{Placed, fits, after_placed}}
 
 -- ---- what is made is blank
 

@@ -1,54 +1,16 @@
 -- Conflicting events of a run are ordered.
-use Rattle.std.specs.Prelude.{◌≡◌, ◌≢◌, ◌⊎◌, ◌<◌, ◌≤◌, ℕ, zero, suc, ◌+◌, ◌-◌, Bool, true, false, List, [], ◌∷◌, ◌++◌, take, length, Option, Some, None, slice_get, refl}
-use Rattle.std.proofs.Common.{inl, inr, ap, sym, subst, ◌∙◌, arith}
-use Rattle.std.proofs.lemmas.Option.{same_Some, none-some}
-use Rattle.std.proofs.lemmas.List.{append-nil, append_assoc}
-use Rattle.std.proofs.lemmas.Bool.Decides.{eqb_tells, leb_tells}
-use Rattle.std.specs.FinMap.{get}
-use Rattle.pc_lists.proofs.Gets.{get_below, get_within, get_front}
-use Rattle.pc_heap.specs.Objects.{ObjectMap, class_at, Object}
-use Rattle.pc_heap.specs.Parts.{class_in}
-use Rattle.pc_heap.specs.declared.value.Address.{Address}
-use Rattle.pc_heap.specs.declared.value.Value.{Value}
-use Rattle.pc_heap.specs.declared.value.Value.TheVariants.{At}
-use Rattle.pc_lists.specs.Lists.{◌>>=◌}
-use Rattle.pc_core.specs.CoreData.{field_named, CoreData}
-use Rattle.pc_core.specs.declared.nodes.Node.{Node}
-use Rattle.pc_core.specs.declared.nodes.NodeKind.{NodeKind}
+use Rattle.std.specs.{Prelude.{◌≡◌, ◌≢◌, ◌⊎◌, ◌<◌, ◌≤◌, ℕ, zero, suc, ◌+◌, ◌-◌, Bool, true, false, List, [], ◌∷◌, ◌++◌, take, length, Option, Some, None, slice_get, refl}, FinMap.get}
+use Rattle.std.proofs.{Common.{inl, inr, ap, sym, subst, ◌∙◌, arith}, lemmas.Option.{same_Some, none-some}, lemmas.List.{append-nil, append_assoc}, lemmas.Bool.Decides.{eqb_tells, leb_tells}}
+use Rattle.pc_base.proofs.Gets.{get_below, get_within, get_front}
+use Rattle.pc_heap.specs.{Objects.{ObjectMap, class_at, Object}, Parts.class_in, declared.value.Address.Address, declared.value.Value.Value, declared.value.Value.TheVariants.At}
+use Rattle.pc_base.specs.Lists.{◌>>=◌}
+use Rattle.pc_core.specs.{CoreData.{field_named, CoreData}, declared.nodes.Node.Node, declared.nodes.NodeKind.NodeKind}
 use Rattle.pc_core.specs.declared.nodes.NodeKind.TheVariants as node
-use Rattle.pc_semantics.specs.declared.access.Access.{Access}
-use Rattle.pc_semantics.specs.declared.actors.Actor.{Actor}
-use Rattle.pc_semantics.specs.declared.frames.Frame.{Frame}
-use Rattle.pc_semantics.specs.declared.frames.Task.{Task}
+use Rattle.pc_semantics.specs.{declared.access.Access.Access, declared.actors.Actor.Actor, declared.frames.Frame.Frame, declared.frames.Task.Task, declared.mailbox.Message.Message, declared.outcome.Outcome.Outcome, declared.outcome.Outcome.TheVariants.{Moved, Skipped}, Configurations.{Configuration, start, Around, with_stack, pop, address_of}, Parts.{with_top, get_field, put_field, get_of, get_from, put_of, put_into, at_node, step_of, run_task}, Calls.{get_task, put_task}, Step.{task_move, step, run_frames, made, followed, run_from, after, outcomes}, Safety.{name_read, name_written, touched_name, access_of, access, Race, LacksNothing, Safe}, Ahead.ahead_of}
 use Rattle.pc_semantics.specs.declared.frames.Task.TheVariants as task
-use Rattle.pc_semantics.specs.declared.mailbox.Message.{Message}
-use Rattle.pc_semantics.specs.declared.outcome.Outcome.{Outcome}
-use Rattle.pc_semantics.specs.declared.outcome.Outcome.TheVariants.{Moved, Skipped}
-use Rattle.pc_semantics.specs.Configurations.{Configuration, start, Around, with_stack, pop, address_of}
-use Rattle.pc_semantics.specs.Parts.{with_top, get_field, put_field, get_of, get_from, put_of, put_into, at_node, step_of, run_task}
-use Rattle.pc_semantics.specs.Calls.{get_task, put_task}
-use Rattle.pc_semantics.specs.Step.{task_move, step, run_frames, made, followed, run_from, after, outcomes}
-use Rattle.pc_semantics.specs.Safety.{name_read, name_written, touched_name, access_of, access, Race, LacksNothing, Safe}
 use Rattle.pc_semantics.specs.declared.ahead.Ahead.TheVariants as ahead
-use Rattle.pc_semantics.specs.Ahead.{ahead_of}
-use Rattle.pc_events.specs.Before.{at_place, Event, receiver_by, receiver_of, takes_one, taken_before, waiting_of, waiting_for, Before, own, carried, chain}
-use Rattle.pc_events.specs.Clock.{Conflict}
-use Rattle.pc_events.specs.Laws.{ConflictsOrdered, BeforeIsEarlier, EarlierComesBefore}
-use Rattle.pc_events.proofs.Changes.{Heaping, Same, Sets, New, Change, applied, acted, plan}
-use Rattle.pc_events.proofs.Maps.{Fit, NotBy, Touches, class_kept}
-use Rattle.pc_events.proofs.Right.{touch, touch_by}
-use Rattle.pc_events.proofs.Stable.{NotStuck}
-use Rattle.pc_events.proofs.Plans.{Running, view, plans, step_is}
-use Rattle.pc_events.proofs.Told.{HeapTold, SendTold, SpawnTold, Told, told, access_is}
-use Rattle.pc_events.proofs.Kept.{Still, acted_still, spawned_still, value_there, touched_there}
-use Rattle.pc_events.proofs.Reach.{Placed, fits, after_placed}
-use Rattle.pc_events.proofs.Like.{AddressLike, address_more}
-use Rattle.pc_events.proofs.Sim.{Marks, MoreMarks, Clean, Status, Sim, sim_marked, second_address}
-use Rattle.pc_events.proofs.SimOne.{one_goes}
-use Rattle.pc_events.proofs.SimEvent.{touch_like, task_takes, not_lacking, frames_cons, Followed, Reason, event_goes}
-use Rattle.pc_events.proofs.Outcomes.{Turn, turn, earlier, goes_on, taking_ahead, other_next, skipped_next}
-use Rattle.pc_events.specs.Counting.{Live}
-use Rattle.pc_events.proofs.Closed.{sim_front, pair_goes, nothing, Closed, actor_of, moved_next, skipped_behind, closed_at}
+use Rattle.pc_events.specs.{Before.{at_place, Event, receiver_by, receiver_of, takes_one, taken_before, waiting_of, waiting_for, Before, own, carried, chain}, Clock.Conflict, Laws.{ConflictsOrdered, BeforeIsEarlier, EarlierComesBefore}, Counting.Live}
+use Rattle.pc_events.proofs.{Changes.{Heaping, Same, Sets, New, Change, applied, acted, plan}, Maps.{Fit, NotBy, Touches, class_kept}, Right.{touch, touch_by}, Stable.NotStuck, Plans.{Running, view, plans, step_is}, Told.{HeapTold, SendTold, SpawnTold, Told, told, access_is}, Kept.{Still, acted_still, spawned_still, value_there, touched_there}, Reach.{Placed, fits, after_placed}, Like.{AddressLike, address_more}, Sim.{Marks, MoreMarks, Clean, Status, Sim, sim_marked, second_address}, SimOne.one_goes, SimEvent.{touch_like, task_takes, not_lacking, frames_cons, Followed, Reason, event_goes}, Outcomes.{Turn, turn, earlier, goes_on, taking_ahead, other_next, skipped_next}, Closed.{sim_front, pair_goes, nothing, Closed, actor_of, moved_next, skipped_behind, closed_at}}
 
 -- ---- an access that is about to come stays
 

@@ -1,24 +1,11 @@
 -- A run, place by place.
 use Rattle.std.specs.Prelude.{◌≡◌, ◌≢◌, ◌⊎◌, ◌<◌, ℕ, zero, suc, ◌+◌, Bool, true, false, cond, ◌&&◌, if◌then◌else◌, nat_eq, List, [], ◌∷◌, ◌++◌, take, length, Option, Some, None, slice_get, refl}
-use Rattle.std.proofs.Common.{inl, inr, ap, sym, ◌∙◌, arith}
-use Rattle.std.proofs.lemmas.Option.{same_Some, none-some}
-use Rattle.std.proofs.lemmas.Bool.{eq-eqb, ne_eqb}
+use Rattle.std.proofs.{Common.{inl, inr, ap, sym, ◌∙◌, arith}, lemmas.Option.{same_Some, none-some}, lemmas.Bool.{eq-eqb, ne_eqb}}
 use Rattle.pc_core.specs.CoreData.{CoreData}
-use Rattle.pc_semantics.specs.declared.actors.Actor.{Actor}
-use Rattle.pc_semantics.specs.declared.frames.Frame.{Frame}
-use Rattle.pc_semantics.specs.declared.frames.Task.{Task}
-use Rattle.pc_semantics.specs.declared.outcome.Outcome.{Outcome}
-use Rattle.pc_semantics.specs.declared.outcome.Outcome.TheVariants.{Moved, Skipped, Lacks, TooLong}
-use Rattle.pc_semantics.specs.Configurations.{Configuration, Move, Stuck, Overflows, Goes, Writes, Makes, Spawns, Enters, Sends, Leaves}
-use Rattle.pc_semantics.specs.Step.{around, step, run_frames, take_first, followed, run_from, outcomes_from}
-use Rattle.pc_semantics.specs.Parts.{step_of, run_task, of_tasks, of_actor}
+use Rattle.pc_semantics.specs.{declared.actors.Actor.Actor, declared.frames.Frame.Frame, declared.frames.Task.Task, declared.outcome.Outcome.Outcome, declared.outcome.Outcome.TheVariants.{Moved, Skipped, Lacks, TooLong}, Configurations.{Configuration, Move, Stuck, Overflows, Goes, Writes, Makes, Spawns, Enters, Sends, Leaves}, Step.{around, step, run_frames, take_first, followed, run_from, outcomes_from}, Parts.{step_of, run_task, of_tasks, of_actor}, Ahead.{by_move, by_outcome, of_frames, ahead_of}}
 use Rattle.pc_semantics.specs.declared.ahead.Ahead.TheVariants as ahead
-use Rattle.pc_semantics.specs.Ahead.{by_move, by_outcome, of_frames, ahead_of}
 use Rattle.pc_events.specs.Before.{is_take, takes_one, takes_from}
-use Rattle.pc_events.proofs.Changes.{Change, plan}
-use Rattle.pc_events.proofs.Plans.{Taking, view, step_is}
-use Rattle.pc_events.proofs.Told.{ahead_is}
-use Rattle.pc_events.proofs.SimEvent.{message_takes, task_takes}
+use Rattle.pc_events.proofs.{Changes.{Change, plan}, Plans.{Taking, view, step_is}, Told.ahead_is, SimEvent.{message_takes, task_takes}}
 
 -- ---- a turn
 

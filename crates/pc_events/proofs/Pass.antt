@@ -1,11 +1,8 @@
 -- Two changes of different actors commute.
 use Rattle.std.specs.Prelude.{◌≡◌, ◌≢◌, ◌<◌, ℕ, Bool, true, false, List, [], ◌∷◌, ◌++◌, length, Option, Some, None, slice_get, refl, ⊤}
 use Rattle.std.proofs.Common.{ap, sym, subst, ◌∙◌}
-use Rattle.pc_semantics.specs.declared.actors.Actor.{Actor}
-use Rattle.pc_semantics.specs.declared.frames.Frame.{Frame}
-use Rattle.pc_semantics.specs.declared.mailbox.Message.{Message}
-use Rattle.pc_events.proofs.Changes.{changed, behind, left_mail, going, pushing, born, sent, spawned, printed_with, Change, acted}
-use Rattle.pc_events.proofs.Lists.{length_changed, get_unchanged, changes_pass, changed_front}
+use Rattle.pc_semantics.specs.{declared.actors.Actor.Actor, declared.frames.Frame.Frame, declared.mailbox.Message.Message}
+use Rattle.pc_events.proofs.{Changes.{changed, behind, left_mail, going, pushing, born, sent, spawned, printed_with, Change, acted}, Lists.{length_changed, get_unchanged, changes_pass, changed_front}}
 
 -- A message waits for the actor if one is taken.
 abbrev pub Waits : List Actor → ℕ → Bool → Type 0

@@ -1,17 +1,12 @@
 -- What an actor and a waiting message know of a run, place by place: the events that a clock kept for them counts.
 use Rattle.std.specs.Prelude.{◌≡◌, ◌≢◌, ◌⊎◌, ◌<◌, ◌≤◌, ℕ, suc, max, List, Some, refl}
-use Rattle.std.proofs.Common.{inl, inr, ap, sym, subst, ◌∙◌, arith}
-use Rattle.std.proofs.lemmas.Bool.Decides.{eqb_tells, leb_tells}
-use Rattle.pc_lists.proofs.Gets.{get_within}
+use Rattle.std.proofs.{Common.{inl, inr, ap, sym, subst, ◌∙◌, arith}, lemmas.Bool.Decides.{eqb_tells, leb_tells}}
+use Rattle.pc_base.proofs.Gets.{get_within}
 use Rattle.pc_core.specs.CoreData.{CoreData}
 use Rattle.pc_semantics.specs.declared.ahead.Ahead.TheVariants as ahead
 use Rattle.pc_semantics.specs.Ahead.{ahead_of}
-use Rattle.pc_events.specs.Before.{at_place, Event, receiver_of, taken_before, Before, own, carried, chain}
-use Rattle.pc_events.specs.Counting.{Live, index, Counts, AtOrBefore, PastOf, PostOf, Put, total}
-use Rattle.pc_events.proofs.Order.{before_is_earlier}
-use Rattle.pc_events.proofs.Links.{last_link}
-use Rattle.pc_events.proofs.Events.{one_actor, index_event, index_other, index_more, events_of, events_count, events_found}
-use Rattle.pc_events.proofs.Totals.{put_below}
+use Rattle.pc_events.specs.{Before.{at_place, Event, receiver_of, taken_before, Before, own, carried, chain}, Counting.{Live, index, Counts, AtOrBefore, PastOf, PostOf, Put, total}}
+use Rattle.pc_events.proofs.{Order.before_is_earlier, Links.last_link, Events.{one_actor, index_event, index_other, index_more, events_of, events_count, events_found}, Totals.put_below}
 
 -- ---- what is known
 

@@ -1,27 +1,11 @@
 -- A step that moves makes the change that is planned.
-use Rattle.std.specs.Prelude.{◌≡◌, ◌⊎◌, ◌<◌, ℕ, zero, suc, true, false, List, [], ◌∷◌, ◌++◌, length, Option, Some, None, slice_get, slice_set, refl, ⊤}
-use Rattle.std.proofs.Common.{inl, inr, ap, sym, subst, ◌∙◌}
-use Rattle.std.proofs.lemmas.Option.{same_Some, none-some}
-use Rattle.std.specs.FinMap.{insert}
-use Rattle.pc_lists.proofs.Gets.{get_within}
-use Rattle.pc_heap.specs.Objects.{ObjectMap, with_value}
-use Rattle.pc_heap.specs.declared.value.Value.{Value}
-use Rattle.pc_heap.specs.declared.value.Value.TheVariants.{Text, At}
-use Rattle.pc_core.specs.CoreData.{CoreData}
-use Rattle.pc_core.specs.declared.declarations.Method.{Method}
-use Rattle.pc_semantics.specs.declared.actors.Actor.{Actor}
-use Rattle.pc_semantics.specs.declared.frames.Frame.{Frame}
-use Rattle.pc_semantics.specs.declared.frames.Task.{Task}
-use Rattle.pc_semantics.specs.declared.mailbox.Message.{Message}
-use Rattle.pc_semantics.specs.declared.outcome.Lack.{Lack}
-use Rattle.pc_semantics.specs.declared.outcome.Outcome.{Outcome}
-use Rattle.pc_semantics.specs.declared.outcome.Outcome.TheVariants.{Moved, Skipped, Lacks, TooLong}
-use Rattle.pc_semantics.specs.Configurations.{Configuration, own_address, Move, Stuck, Overflows, Goes, Writes, Makes, Spawns, Enters, Sends, Leaves, first_frame}
-use Rattle.pc_semantics.specs.Step.{task_move, left, made, printed_text, take, take_first, run_frames, step}
-use Rattle.pc_semantics.specs.Parts.{delivered, deliver, run_task, begun, begin_method, step_of}
-use Rattle.pc_events.proofs.Changes.{Same, Sets, New, changed, going, pushing, born, Change, applied, local, on_heap, planned, plan_print, plan_begun, plan_begin, plan_message, plan_first, plan_tasks, plan_frames, plan_actor, plan, behind}
-use Rattle.pc_events.proofs.Lists.{set_changed, length_changed}
-use Rattle.pc_events.proofs.Right.{Right, right}
+use Rattle.std.specs.{Prelude.{◌≡◌, ◌⊎◌, ◌<◌, ℕ, zero, suc, true, false, List, [], ◌∷◌, ◌++◌, length, Option, Some, None, slice_get, slice_set, refl, ⊤}, FinMap.insert}
+use Rattle.std.proofs.{Common.{inl, inr, ap, sym, subst, ◌∙◌}, lemmas.Option.{same_Some, none-some}}
+use Rattle.pc_base.proofs.Gets.{get_within}
+use Rattle.pc_heap.specs.{Objects.{ObjectMap, with_value}, declared.value.Value.Value, declared.value.Value.TheVariants.{Text, At}}
+use Rattle.pc_core.specs.{CoreData.CoreData, declared.declarations.Method.Method}
+use Rattle.pc_semantics.specs.{declared.actors.Actor.Actor, declared.frames.Frame.Frame, declared.frames.Task.Task, declared.mailbox.Message.Message, declared.outcome.Lack.Lack, declared.outcome.Outcome.Outcome, declared.outcome.Outcome.TheVariants.{Moved, Skipped, Lacks, TooLong}, Configurations.{Configuration, own_address, Move, Stuck, Overflows, Goes, Writes, Makes, Spawns, Enters, Sends, Leaves, first_frame}, Step.{task_move, left, made, printed_text, take, take_first, run_frames, step}, Parts.{delivered, deliver, run_task, begun, begin_method, step_of}}
+use Rattle.pc_events.proofs.{Changes.{Same, Sets, New, changed, going, pushing, born, Change, applied, local, on_heap, planned, plan_print, plan_begun, plan_begin, plan_message, plan_first, plan_tasks, plan_frames, plan_actor, plan, behind}, Lists.{set_changed, length_changed}, Right.{Right, right}}
 
 -- ---- what a plan implies
 

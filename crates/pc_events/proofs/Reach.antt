@@ -1,27 +1,12 @@
 -- In each configuration that a run leads to, the objects of a maker are the first ones of its serials, and the makers are actors.
-use Rattle.std.specs.Prelude.{◌≡◌, ◌≢◌, ◌⊎◌, ◌<◌, ◌≤◌, ℕ, ◌+◌, List, [], ◌∷◌, ◌++◌, length, Option, Some, None, nat_eq, refl, ⊤}
-use Rattle.std.proofs.Common.{inl, inr, ap, sym, subst, ◌∙◌, arith}
-use Rattle.std.proofs.lemmas.Option.{none-some}
-use Rattle.std.proofs.lemmas.Bool.{eq-eqb, ne_eqb}
-use Rattle.std.specs.FinMap.{get, insert, empty, get-empty, len-empty}
-use Rattle.pc_heap.specs.Objects.{address_cmp, ObjectMap, made_by, next_address, with_field, Object}
-use Rattle.pc_heap.specs.Parts.{object_in}
-use Rattle.pc_lists.specs.Counts.{one_if}
+use Rattle.std.specs.{Prelude.{◌≡◌, ◌≢◌, ◌⊎◌, ◌<◌, ◌≤◌, ℕ, ◌+◌, List, [], ◌∷◌, ◌++◌, length, Option, Some, None, nat_eq, refl, ⊤}, FinMap.{get, insert, empty, get-empty, len-empty}}
+use Rattle.std.proofs.{Common.{inl, inr, ap, sym, subst, ◌∙◌, arith}, lemmas.Option.none-some, lemmas.Bool.{eq-eqb, ne_eqb}}
+use Rattle.pc_heap.specs.{Objects.{address_cmp, ObjectMap, made_by, next_address, with_field, Object}, Parts.object_in, declared.value.Address.Address}
+use Rattle.pc_base.specs.Counts.{one_if}
 use Rattle.pc_heap.proofs.Counts.{made_more, made_same, made_few}
-use Rattle.pc_heap.specs.declared.value.Address.{Address}
 use Rattle.pc_core.specs.CoreData.{CoreData}
-use Rattle.pc_semantics.specs.declared.actors.Actor.{Actor}
-use Rattle.pc_semantics.specs.declared.mailbox.Message.{Message}
-use Rattle.pc_semantics.specs.declared.outcome.Outcome.{Outcome}
-use Rattle.pc_semantics.specs.declared.outcome.Outcome.TheVariants.{Moved, Skipped, Lacks, TooLong}
-use Rattle.pc_semantics.specs.Configurations.{Configuration, own_address, environment_address, environment, blank_object, main_create, start_of, start}
-use Rattle.pc_semantics.specs.Step.{step, followed, run_from, after}
-use Rattle.pc_events.proofs.Changes.{Heaping, Same, Sets, New, heaped, spawned, Change, acted, applied}
-use Rattle.pc_events.proofs.Maps.{address_cases, get_other, Fit}
-use Rattle.pc_events.proofs.Plans.{plans, step_is}
-use Rattle.pc_events.proofs.Told.{place_of, Told, HeapTold, told}
-use Rattle.pc_events.proofs.Pass.{length_acted}
-use Rattle.pc_events.proofs.Kept.{count_grows, length_push}
+use Rattle.pc_semantics.specs.{declared.actors.Actor.Actor, declared.mailbox.Message.Message, declared.outcome.Outcome.Outcome, declared.outcome.Outcome.TheVariants.{Moved, Skipped, Lacks, TooLong}, Configurations.{Configuration, own_address, environment_address, environment, blank_object, main_create, start_of, start}, Step.{step, followed, run_from, after}}
+use Rattle.pc_events.proofs.{Changes.{Heaping, Same, Sets, New, heaped, spawned, Change, acted, applied}, Maps.{address_cases, get_other, Fit}, Plans.{plans, step_is}, Told.{place_of, Told, HeapTold, told}, Pass.length_acted, Kept.{count_grows, length_push}}
 
 abbrev no_objects : ObjectMap
 no_objects = empty

@@ -1,31 +1,14 @@
 -- What the other tasks change: a field that they are about to write, a new object of the actor, or another's mailbox.
-use Rattle.std.specs.Prelude.{◌≡◌, ◌<◌, ◌&&◌, ℕ, ◌-◌, Bool, true, false, if◌then◌else◌, List, [], ◌∷◌, length, Option, Some, None, slice_get, nat_lt, nat_eq, refl, ⊤}
-use Rattle.std.proofs.Common.{ap, ◌∙◌}
-use Rattle.std.proofs.lemmas.Bool.{and_parts, ltb-true}
-use Rattle.std.specs.FinMap.{get}
-use Rattle.pc_lists.proofs.Gets.{get_below}
-use Rattle.pc_heap.specs.Objects.{ObjectMap, class_at, next_address, Object}
-use Rattle.pc_heap.specs.Parts.{class_in}
-use Rattle.pc_heap.specs.declared.value.Address.{Address}
-use Rattle.pc_heap.specs.declared.value.Value.{Value}
-use Rattle.pc_heap.specs.declared.value.Value.TheVariants.{At}
-use Rattle.pc_core.specs.CoreData.{field_named, method_named, CoreData}
-use Rattle.pc_lists.specs.Lists.{◌>>=◌}
-use Rattle.pc_core.specs.declared.declarations.Method.{Method}
-use Rattle.pc_core.specs.declared.declarations.MethodKind.{MethodKind}
+use Rattle.std.specs.{Prelude.{◌≡◌, ◌<◌, ◌&&◌, ℕ, ◌-◌, Bool, true, false, if◌then◌else◌, List, [], ◌∷◌, length, Option, Some, None, slice_get, nat_lt, nat_eq, refl, ⊤}, FinMap.get}
+use Rattle.std.proofs.{Common.{ap, ◌∙◌}, lemmas.Bool.{and_parts, ltb-true}}
+use Rattle.pc_base.proofs.Gets.{get_below}
+use Rattle.pc_heap.specs.{Objects.{ObjectMap, class_at, next_address, Object}, Parts.class_in, declared.value.Address.Address, declared.value.Value.Value, declared.value.Value.TheVariants.At}
+use Rattle.pc_core.specs.{CoreData.{field_named, method_named, CoreData}, declared.declarations.Method.Method, declared.declarations.MethodKind.MethodKind, declared.nodes.Node.Node, declared.nodes.NodeKind.NodeKind}
+use Rattle.pc_base.specs.Lists.{◌>>=◌}
 use Rattle.pc_core.specs.declared.declarations.MethodKind.TheVariants as method
-use Rattle.pc_core.specs.declared.nodes.Node.{Node}
-use Rattle.pc_core.specs.declared.nodes.NodeKind.{NodeKind}
 use Rattle.pc_core.specs.declared.nodes.NodeKind.TheVariants as node
-use Rattle.pc_semantics.specs.declared.access.Access.{Access}
-use Rattle.pc_semantics.specs.declared.frames.Frame.{Frame}
-use Rattle.pc_semantics.specs.declared.frames.Task.{Task}
+use Rattle.pc_semantics.specs.{declared.access.Access.Access, declared.frames.Frame.Frame, declared.frames.Task.Task, Configurations.{blank_object, Around, Move, Stuck, Overflows, Goes, Writes, Makes, Spawns, Enters, Sends, Leaves, with_stack, pop, popped, pop_arguments, value_entity, address_of}, Parts.{with_top, get_value, get_field, get_of, get_from, put_value, put_field, put_of, put_into, begin_new, make_of, spawn_of, enter, send, push_text, invoke_found, invoke_method, invoke_on, at_node}, Calls.{get_task, put_task, make_task, spawn_task, invoke_kind, is_string, text_of, invoke_task}, Step.task_move, Safety.{name_written, touched_name}}
 use Rattle.pc_semantics.specs.declared.frames.Task.TheVariants as task
-use Rattle.pc_semantics.specs.Configurations.{blank_object, Around, Move, Stuck, Overflows, Goes, Writes, Makes, Spawns, Enters, Sends, Leaves, with_stack, pop, popped, pop_arguments, value_entity, address_of}
-use Rattle.pc_semantics.specs.Parts.{with_top, get_value, get_field, get_of, get_from, put_value, put_field, put_of, put_into, begin_new, make_of, spawn_of, enter, send, push_text, invoke_found, invoke_method, invoke_on, at_node}
-use Rattle.pc_semantics.specs.Calls.{get_task, put_task, make_task, spawn_task, invoke_kind, is_string, text_of, invoke_task}
-use Rattle.pc_semantics.specs.Step.{task_move}
-use Rattle.pc_semantics.specs.Safety.{name_written, touched_name}
 use Rattle.pc_events.proofs.Plain.{Plain, top_all, arguments_all, node_all, blind_plain}
 
 -- ---- what a task is about to touch

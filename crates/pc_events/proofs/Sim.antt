@@ -1,16 +1,9 @@
 -- A configuration that has gone on by more steps than another, and is like it except for what was marked.
 use Rattle.std.specs.Prelude.{◌≡◌, ◌⊎◌, ◌<◌, ℕ, suc, ◌+◌, nat_eq, List, [], ◌∷◌, ◌++◌, length, Some, slice_get, ⊤}
-use Rattle.std.proofs.Common.{inl, inr, ap, sym, subst, ◌∙◌, arith}
-use Rattle.std.proofs.lemmas.Option.{same_Some}
-use Rattle.std.proofs.lemmas.Bool.{eq-eqb, ne_eqb}
-use Rattle.std.proofs.lemmas.Bool.Decides.{eqb_tells}
-use Rattle.pc_lists.proofs.Gets.{get_within, get_front}
-use Rattle.pc_heap.specs.Objects.{class_at, made_by}
-use Rattle.pc_heap.specs.Fields.{field_at}
-use Rattle.pc_heap.specs.declared.value.Address.{Address}
-use Rattle.pc_semantics.specs.declared.actors.Actor.{Actor}
-use Rattle.pc_semantics.specs.declared.mailbox.Message.{Message}
-use Rattle.pc_semantics.specs.Configurations.{Configuration}
+use Rattle.std.proofs.{Common.{inl, inr, ap, sym, subst, ◌∙◌, arith}, lemmas.Option.same_Some, lemmas.Bool.{eq-eqb, ne_eqb}, lemmas.Bool.Decides.eqb_tells}
+use Rattle.pc_base.proofs.Gets.{get_within, get_front}
+use Rattle.pc_heap.specs.{Objects.{class_at, made_by}, Fields.field_at, declared.value.Address.Address}
+use Rattle.pc_semantics.specs.{declared.actors.Actor.Actor, declared.mailbox.Message.Message, Configurations.Configuration}
 use Rattle.pc_events.proofs.Like.{AddressLike, FramesLike, MessageLike, FoundLike, message_more}
 
 -- ---- mailboxes

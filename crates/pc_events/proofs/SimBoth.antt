@@ -1,25 +1,10 @@
 -- Both configurations go on by like changes, and stay like each other.
-use Rattle.std.specs.Prelude.{◌≡◌, ◌≢◌, ◌⊎◌, ◌<◌, ◌≤◌, ℕ, ◌+◌, Bool, true, false, cond, nat_eq, List, [], ◌∷◌, ◌++◌, length, Option, Some, None, slice_get, refl, ⊤}
-use Rattle.std.proofs.Common.{inl, inr, ap, sym, subst, ◌∙◌, arith, length-append}
-use Rattle.std.proofs.lemmas.Option.{same_Some}
-use Rattle.std.proofs.lemmas.List.{append-nil}
-use Rattle.std.proofs.lemmas.Bool.Decides.{eqb_tells}
-use Rattle.std.specs.FinMap.{get}
-use Rattle.pc_lists.proofs.Gets.{get_below, get_within, get_front, get_push, get_behind}
-use Rattle.pc_heap.specs.Objects.{made_by, Object}
-use Rattle.pc_heap.specs.declared.value.Address.{Address}
-use Rattle.pc_semantics.specs.declared.actors.Actor.{Actor}
-use Rattle.pc_semantics.specs.declared.mailbox.Message.{Message}
-use Rattle.pc_semantics.specs.Configurations.{Configuration}
-use Rattle.pc_events.proofs.Changes.{changed, going, left_mail, pushing, born, sent, spawned, Change, acted, applied}
-use Rattle.pc_events.proofs.Lists.{get_changed, get_unchanged}
-use Rattle.pc_events.proofs.Maps.{Fit}
-use Rattle.pc_events.proofs.Pass.{length_acted}
-use Rattle.pc_events.proofs.Kept.{count_grows, length_push}
-use Rattle.pc_events.proofs.Reach.{Placed}
-use Rattle.pc_events.proofs.Like.{FramesLike, MessageLike, frames_more, message_more}
-use Rattle.pc_events.proofs.Sim.{MailLike, mail_both, mail_weaker, Marks, Clean, Late, Status, Sim, names_same}
-use Rattle.pc_events.proofs.SimHeaps.{HeapLike, classes_both, fields_both, made_both}
+use Rattle.std.specs.{Prelude.{◌≡◌, ◌≢◌, ◌⊎◌, ◌<◌, ◌≤◌, ℕ, ◌+◌, Bool, true, false, cond, nat_eq, List, [], ◌∷◌, ◌++◌, length, Option, Some, None, slice_get, refl, ⊤}, FinMap.get}
+use Rattle.std.proofs.{Common.{inl, inr, ap, sym, subst, ◌∙◌, arith, length-append}, lemmas.Option.same_Some, lemmas.List.append-nil, lemmas.Bool.Decides.eqb_tells}
+use Rattle.pc_base.proofs.Gets.{get_below, get_within, get_front, get_push, get_behind}
+use Rattle.pc_heap.specs.{Objects.{made_by, Object}, declared.value.Address.Address}
+use Rattle.pc_semantics.specs.{declared.actors.Actor.Actor, declared.mailbox.Message.Message, Configurations.Configuration}
+use Rattle.pc_events.proofs.{Changes.{changed, going, left_mail, pushing, born, sent, spawned, Change, acted, applied}, Lists.{get_changed, get_unchanged}, Maps.Fit, Pass.length_acted, Kept.{count_grows, length_push}, Reach.Placed, Like.{FramesLike, MessageLike, frames_more, message_more}, Sim.{MailLike, mail_both, mail_weaker, Marks, Clean, Late, Status, Sim, names_same}, SimHeaps.{HeapLike, classes_both, fields_both, made_both}}
 
 -- ---- an actor after a change
 

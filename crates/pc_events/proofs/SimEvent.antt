@@ -1,41 +1,12 @@
 -- An actor that is like another: its next step is the other's too, or it is marked from now on.
 use Rattle.std.specs.Prelude.{◌≡◌, ◌≢◌, ◌⊎◌, ◌<◌, ℕ, zero, suc, Bool, true, false, cond, List, [], ◌∷◌, ◌++◌, length, Option, Some, None, slice_get, refl, ⊤}
-use Rattle.std.proofs.Common.{inl, inr, ap, sym, subst, ◌∙◌, arith}
-use Rattle.std.proofs.lemmas.Option.{same_Some, none-some}
-use Rattle.pc_lists.proofs.Gets.{get_behind}
-use Rattle.pc_heap.specs.Objects.{ObjectMap, class_at, Object}
-use Rattle.pc_heap.specs.Parts.{object_in}
-use Rattle.pc_heap.specs.Fields.{field_at}
-use Rattle.pc_heap.specs.declared.value.Address.{Address}
-use Rattle.pc_heap.specs.declared.value.Value.{Value}
-use Rattle.pc_heap.specs.declared.value.Value.TheVariants.{Num, Truth, Text, Prim, At}
-use Rattle.pc_lists.specs.Lists.{◌>>=◌}
-use Rattle.pc_core.specs.CoreData.{field_named, CoreData}
-use Rattle.pc_core.specs.declared.declarations.Method.{Method}
-use Rattle.pc_semantics.specs.declared.access.Access.{Access}
-use Rattle.pc_semantics.specs.declared.actors.Actor.{Actor}
-use Rattle.pc_semantics.specs.declared.frames.Frame.{Frame}
-use Rattle.pc_semantics.specs.declared.frames.Task.{Task}
-use Rattle.pc_semantics.specs.declared.mailbox.Message.{Message}
-use Rattle.pc_semantics.specs.declared.outcome.Lack.{Lack}
-use Rattle.pc_semantics.specs.declared.outcome.Outcome.{Outcome}
-use Rattle.pc_semantics.specs.declared.outcome.Outcome.TheVariants.{Lacks}
-use Rattle.pc_semantics.specs.Configurations.{Configuration, own_address, Move, Stuck, Overflows, Goes, Writes, Makes, Spawns, Enters, Sends, Leaves, first_frame}
-use Rattle.pc_semantics.specs.Step.{task_move, left, made, run_frames, step}
-use Rattle.pc_semantics.specs.Parts.{run_task, step_of}
-use Rattle.pc_semantics.specs.Safety.{touched_name, access, LacksNothing}
-use Rattle.pc_events.proofs.Changes.{Heaping, Same, Sets, New, Change, left_mail, planned, plan_print, plan_begun, plan_begin, plan_message, plan_first, plan_tasks, plan_frames, plan_actor, plan}
-use Rattle.pc_events.proofs.Right.{touch, touch_by}
-use Rattle.pc_events.proofs.Stable.{NotStuck}
-use Rattle.pc_events.proofs.Plans.{Running, Taking, view}
-use Rattle.pc_events.proofs.Told.{HeapTold, Told, told, access_is}
-use Rattle.pc_events.proofs.Kept.{touched_there}
-use Rattle.pc_events.proofs.Like.{AddressLike, Like, SlotLike, Likes, FrameLike, FramesLike, MessageLike, ObjectLike, FoundLike, MoveLike, address_more, like_more, slots_more, frames_more, message_more}
-use Rattle.pc_events.proofs.LikeBasic.{pushed_like}
-use Rattle.pc_events.proofs.LikeTasks.{AroundLike, moves_like, first_frame_like}
-use Rattle.pc_events.proofs.Sim.{MailLike, mail_weaker, Marks, Clean, Sim, first_address}
-use Rattle.pc_events.proofs.SimHeaps.{HeapLike}
-use Rattle.pc_events.proofs.SimBoth.{SendsLike, NoBirth, Birth, ChangeLike}
+use Rattle.std.proofs.{Common.{inl, inr, ap, sym, subst, ◌∙◌, arith}, lemmas.Option.{same_Some, none-some}}
+use Rattle.pc_base.proofs.Gets.{get_behind}
+use Rattle.pc_heap.specs.{Objects.{ObjectMap, class_at, Object}, Parts.object_in, Fields.field_at, declared.value.Address.Address, declared.value.Value.Value, declared.value.Value.TheVariants.{Num, Truth, Text, Prim, At}}
+use Rattle.pc_base.specs.Lists.{◌>>=◌}
+use Rattle.pc_core.specs.{CoreData.{field_named, CoreData}, declared.declarations.Method.Method}
+use Rattle.pc_semantics.specs.{declared.access.Access.Access, declared.actors.Actor.Actor, declared.frames.Frame.Frame, declared.frames.Task.Task, declared.mailbox.Message.Message, declared.outcome.Lack.Lack, declared.outcome.Outcome.Outcome, declared.outcome.Outcome.TheVariants.Lacks, Configurations.{Configuration, own_address, Move, Stuck, Overflows, Goes, Writes, Makes, Spawns, Enters, Sends, Leaves, first_frame}, Step.{task_move, left, made, run_frames, step}, Parts.{run_task, step_of}, Safety.{touched_name, access, LacksNothing}}
+use Rattle.pc_events.proofs.{Changes.{Heaping, Same, Sets, New, Change, left_mail, planned, plan_print, plan_begun, plan_begin, plan_message, plan_first, plan_tasks, plan_frames, plan_actor, plan}, Right.{touch, touch_by}, Stable.NotStuck, Plans.{Running, Taking, view}, Told.{HeapTold, Told, told, access_is}, Kept.touched_there, Like.{AddressLike, Like, SlotLike, Likes, FrameLike, FramesLike, MessageLike, ObjectLike, FoundLike, MoveLike, address_more, like_more, slots_more, frames_more, message_more}, LikeBasic.pushed_like, LikeTasks.{AroundLike, moves_like, first_frame_like}, Sim.{MailLike, mail_weaker, Marks, Clean, Sim, first_address}, SimHeaps.HeapLike, SimBoth.{SendsLike, NoBirth, Birth, ChangeLike}}
 
 -- ---- what is touched
 

@@ -1,21 +1,11 @@
 -- Objects that are like others stay so if both are changed alike.
-use Rattle.std.specs.Prelude.{◌≡◌, ◌≢◌, ◌⊎◌, ◌<◌, ℕ, ◌+◌, Bool, nat_eq, List, ◌++◌, length, Option, Some, None, slice_get, refl, ⊤}
-use Rattle.std.proofs.Common.{inl, inr, ap, sym, subst, ◌∙◌}
-use Rattle.std.proofs.lemmas.Option.{none-some}
-use Rattle.std.proofs.lemmas.Bool.Decides.{eqb_tells}
-use Rattle.std.specs.FinMap.{get, insert}
-use Rattle.pc_lists.proofs.Gets.{get_set_same, get_set_other}
-use Rattle.pc_heap.specs.Objects.{ObjectMap, class_at, made_by, with_field, with_value, Object}
-use Rattle.pc_heap.specs.Parts.{class_in, object_in, field_in}
-use Rattle.pc_heap.specs.Fields.{field_at}
-use Rattle.pc_lists.specs.Counts.{one_if}
+use Rattle.std.specs.{Prelude.{◌≡◌, ◌≢◌, ◌⊎◌, ◌<◌, ℕ, ◌+◌, Bool, nat_eq, List, ◌++◌, length, Option, Some, None, slice_get, refl, ⊤}, FinMap.{get, insert}}
+use Rattle.std.proofs.{Common.{inl, inr, ap, sym, subst, ◌∙◌}, lemmas.Option.none-some, lemmas.Bool.Decides.eqb_tells}
+use Rattle.pc_base.proofs.Gets.{get_set_same, get_set_other}
+use Rattle.pc_heap.specs.{Objects.{ObjectMap, class_at, made_by, with_field, with_value, Object}, Parts.{class_in, object_in, field_in}, Fields.field_at, declared.value.Address.Address, declared.value.Value.Value}
+use Rattle.pc_base.specs.Counts.{one_if}
 use Rattle.pc_heap.proofs.Counts.{made_more, made_same}
-use Rattle.pc_heap.specs.declared.value.Address.{Address}
-use Rattle.pc_heap.specs.declared.value.Value.{Value}
-use Rattle.pc_events.proofs.Changes.{Heaping, Same, Sets, New, heaped}
-use Rattle.pc_events.proofs.Maps.{address_cases, get_here, get_other, Fit, class_kept}
-use Rattle.pc_events.proofs.Like.{AddressLike, Like, ObjectLike, FoundLike, slot_more, slots_get}
-use Rattle.pc_events.proofs.Sim.{names_same, name_before, second_address, first_address}
+use Rattle.pc_events.proofs.{Changes.{Heaping, Same, Sets, New, heaped}, Maps.{address_cases, get_here, get_other, Fit, class_kept}, Like.{AddressLike, Like, ObjectLike, FoundLike, slot_more, slots_get}, Sim.{names_same, name_before, second_address, first_address}}
 
 pub found_more : (names more : List ℕ) (o p : Option (Option Value)) → FoundLike names o p → FoundLike (names ++ more) o p
 found_more names more None None k = tt

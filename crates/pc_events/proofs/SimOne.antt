@@ -1,23 +1,10 @@
 -- The first configuration goes on alone, by a change of an actor that is marked.
 use Rattle.std.specs.Prelude.{◌≡◌, ◌≢◌, ◌⊎◌, ◌<◌, ◌≤◌, ℕ, ◌+◌, Bool, cond, List, [], length, Option, Some, None, slice_get, refl}
-use Rattle.std.proofs.Common.{inl, inr, ap, sym, subst, ◌∙◌, arith}
-use Rattle.std.proofs.lemmas.Bool.Decides.{eqb_tells}
-use Rattle.pc_lists.proofs.Gets.{get_below, get_push}
-use Rattle.pc_heap.specs.Objects.{class_at}
-use Rattle.pc_heap.specs.Fields.{field_at}
-use Rattle.pc_heap.specs.declared.value.Address.{Address}
-use Rattle.pc_semantics.specs.declared.actors.Actor.{Actor}
-use Rattle.pc_semantics.specs.declared.mailbox.Message.{Message}
-use Rattle.pc_semantics.specs.declared.frames.Frame.{Frame}
-use Rattle.pc_heap.specs.declared.value.Value.{Value}
-use Rattle.pc_semantics.specs.Configurations.{Configuration}
-use Rattle.pc_events.proofs.Changes.{Heaping, Same, Sets, New, going, pushing, born, spawned, Change, acted, applied}
-use Rattle.pc_events.proofs.Maps.{address_cases, Fit, NotBy, Touches, class_kept, field_kept, made_kept}
-use Rattle.pc_events.proofs.Pass.{length_acted}
-use Rattle.pc_events.proofs.Kept.{count_grows}
-use Rattle.pc_events.proofs.Like.{AddressLike, FramesLike, FoundLike}
-use Rattle.pc_events.proofs.Sim.{MailLike, mail_one, Marks, Clean, Status, Sim}
-use Rattle.pc_events.proofs.SimBoth.{own_after, received, acted_from, late_received, late_moved}
+use Rattle.std.proofs.{Common.{inl, inr, ap, sym, subst, ◌∙◌, arith}, lemmas.Bool.Decides.eqb_tells}
+use Rattle.pc_base.proofs.Gets.{get_below, get_push}
+use Rattle.pc_heap.specs.{Objects.class_at, Fields.field_at, declared.value.Address.Address, declared.value.Value.Value}
+use Rattle.pc_semantics.specs.{declared.actors.Actor.Actor, declared.mailbox.Message.Message, declared.frames.Frame.Frame, Configurations.Configuration}
+use Rattle.pc_events.proofs.{Changes.{Heaping, Same, Sets, New, going, pushing, born, spawned, Change, acted, applied}, Maps.{address_cases, Fit, NotBy, Touches, class_kept, field_kept, made_kept}, Pass.length_acted, Kept.count_grows, Like.{AddressLike, FramesLike, FoundLike}, Sim.{MailLike, mail_one, Marks, Clean, Status, Sim}, SimBoth.{own_after, received, acted_from, late_received, late_moved}}
 
 touches_or : (z : Heaping) (q : Address) (f : ℕ) → Touches z q f ⊎ (Touches z q f → ⊥)
 touches_or Same q f = inr (λ u. u)

@@ -1,36 +1,16 @@
 -- A task makes the same move if what it sees has not changed.
-use Rattle.std.specs.Prelude.{◌≡◌, ◌&&◌, ℕ, ◌-◌, Bool, true, false, if◌then◌else◌, List, [], ◌∷◌, length, Option, Some, None, slice_get, nat_lt, nat_eq, refl, ⊤}
-use Rattle.std.proofs.Common.{ap, sym, ◌∙◌}
-use Rattle.std.proofs.lemmas.Option.{same_Some, none-some}
-use Rattle.std.specs.FinMap.{get}
-use Rattle.pc_heap.specs.Objects.{ObjectMap, class_at, made_by, Object}
-use Rattle.pc_heap.specs.Parts.{class_in, field_in}
-use Rattle.pc_heap.specs.Fields.{field_at}
-use Rattle.pc_heap.specs.declared.value.Address.{Address}
-use Rattle.pc_heap.specs.declared.value.Value.{Value}
-use Rattle.pc_heap.specs.declared.value.Value.TheVariants.{Num, Truth, Text, Prim, At}
-use Rattle.pc_core.specs.CoreData.{field_named, method_named, CoreData}
-use Rattle.pc_lists.specs.Lists.{◌>>=◌}
-use Rattle.pc_core.specs.declared.declarations.Method.{Method}
-use Rattle.pc_core.specs.declared.declarations.MethodKind.{MethodKind}
+use Rattle.std.specs.{Prelude.{◌≡◌, ◌&&◌, ℕ, ◌-◌, Bool, true, false, if◌then◌else◌, List, [], ◌∷◌, length, Option, Some, None, slice_get, nat_lt, nat_eq, refl, ⊤}, FinMap.get}
+use Rattle.std.proofs.{Common.{ap, sym, ◌∙◌}, lemmas.Option.{same_Some, none-some}}
+use Rattle.pc_heap.specs.{Objects.{ObjectMap, class_at, made_by, Object}, Parts.{class_in, field_in}, Fields.field_at, declared.value.Address.Address, declared.value.Value.Value, declared.value.Value.TheVariants.{Num, Truth, Text, Prim, At}}
+use Rattle.pc_core.specs.{CoreData.{field_named, method_named, CoreData}, declared.declarations.Method.Method, declared.declarations.MethodKind.MethodKind, declared.nodes.Node.Node, declared.nodes.NodeKind.NodeKind}
+use Rattle.pc_base.specs.Lists.{◌>>=◌}
 use Rattle.pc_core.specs.declared.declarations.MethodKind.TheVariants as method
-use Rattle.pc_core.specs.declared.nodes.Node.{Node}
-use Rattle.pc_core.specs.declared.nodes.NodeKind.{NodeKind}
 use Rattle.pc_core.specs.declared.nodes.NodeKind.TheVariants as node
-use Rattle.pc_semantics.specs.declared.access.Access.{Access}
-use Rattle.pc_semantics.specs.declared.frames.Frame.{Frame}
-use Rattle.pc_semantics.specs.declared.frames.Task.{Task}
+use Rattle.pc_semantics.specs.{declared.access.Access.Access, declared.frames.Frame.Frame, declared.frames.Task.Task, Configurations.{blank_object, Around, Move, Stuck, Makes, with_stack, pop, popped, pop_arguments, value_entity, first_frame}, Parts.{with_top, with_popped, get_value, get_field, get_of, get_from, put_value, put_field, put_of, put_into, begin_new, make_of, spawn_of, send, invoke_found, invoke_method, invoke_on, at_node}, Calls.{get_task, put_task, counted, make_task, spawn_task, invoke_kind, invoke_task}, Step.task_move, Safety.{name_read, name_written, touched_name}, Ahead.by_move}
 use Rattle.pc_semantics.specs.declared.frames.Task.TheVariants as task
 use Rattle.pc_semantics.specs.declared.outcome.Lack.TheVariants as lack
-use Rattle.pc_semantics.specs.Configurations.{blank_object, Around, Move, Stuck, Makes, with_stack, pop, popped, pop_arguments, value_entity, first_frame}
-use Rattle.pc_semantics.specs.Parts.{with_top, with_popped, get_value, get_field, get_of, get_from, put_value, put_field, put_of, put_into, begin_new, make_of, spawn_of, send, invoke_found, invoke_method, invoke_on, at_node}
-use Rattle.pc_semantics.specs.Calls.{get_task, put_task, counted, make_task, spawn_task, invoke_kind, invoke_task}
-use Rattle.pc_semantics.specs.Step.{task_move}
-use Rattle.pc_semantics.specs.Safety.{name_read, name_written, touched_name}
 use Rattle.pc_semantics.specs.declared.ahead.Ahead.TheVariants as ahead
-use Rattle.pc_semantics.specs.Ahead.{by_move}
-use Rattle.pc_events.proofs.Plain.{arguments_all, node_all, blind_same}
-use Rattle.pc_events.proofs.Right.{touch, touch_by}
+use Rattle.pc_events.proofs.{Plain.{arguments_all, node_all, blind_same}, Right.{touch, touch_by}}
 
 abbrev pub NotStuck : Move → Type 0
 NotStuck (Stuck l) = ⊥

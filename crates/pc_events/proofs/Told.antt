@@ -1,29 +1,13 @@
 -- What is known of a change that a step makes.
-use Rattle.std.specs.Prelude.{◌≡◌, ◌<◌, ℕ, zero, suc, Bool, true, false, List, [], ◌∷◌, length, Option, Some, None, slice_get, refl, ⊤}
-use Rattle.std.proofs.Common.{inl, inr, ap, sym, subst, ◌∙◌}
-use Rattle.std.proofs.lemmas.Option.{same_Some, none-some}
-use Rattle.std.specs.FinMap.{get}
-use Rattle.pc_lists.proofs.Gets.{get_below}
-use Rattle.pc_heap.specs.Objects.{ObjectMap, next_address, Object}
-use Rattle.pc_heap.specs.declared.value.Address.{Address}
-use Rattle.pc_heap.specs.declared.value.Value.{Value}
-use Rattle.pc_heap.specs.declared.value.Value.TheVariants.{Text}
-use Rattle.pc_lists.specs.Lists.{◌>>=◌}
-use Rattle.pc_core.specs.CoreData.{CoreData}
-use Rattle.pc_core.specs.declared.declarations.Method.{Method}
-use Rattle.pc_semantics.specs.declared.actors.Actor.{Actor}
-use Rattle.pc_semantics.specs.declared.frames.Frame.{Frame}
-use Rattle.pc_semantics.specs.declared.frames.Task.{Task}
-use Rattle.pc_semantics.specs.declared.mailbox.Message.{Message}
-use Rattle.pc_semantics.specs.Configurations.{Configuration, own_address, Move, Stuck, Overflows, Goes, Writes, Makes, Spawns, Enters, Sends, Leaves}
-use Rattle.pc_semantics.specs.Step.{task_move, around}
-use Rattle.pc_semantics.specs.Safety.{touched_name, access_of, access}
+use Rattle.std.specs.{Prelude.{◌≡◌, ◌<◌, ℕ, zero, suc, Bool, true, false, List, [], ◌∷◌, length, Option, Some, None, slice_get, refl, ⊤}, FinMap.get}
+use Rattle.std.proofs.{Common.{inl, inr, ap, sym, subst, ◌∙◌}, lemmas.Option.{same_Some, none-some}}
+use Rattle.pc_base.proofs.Gets.{get_below}
+use Rattle.pc_heap.specs.{Objects.{ObjectMap, next_address, Object}, declared.value.Address.Address, declared.value.Value.Value, declared.value.Value.TheVariants.Text}
+use Rattle.pc_base.specs.Lists.{◌>>=◌}
+use Rattle.pc_core.specs.{CoreData.CoreData, declared.declarations.Method.Method}
+use Rattle.pc_semantics.specs.{declared.actors.Actor.Actor, declared.frames.Frame.Frame, declared.frames.Task.Task, declared.mailbox.Message.Message, Configurations.{Configuration, own_address, Move, Stuck, Overflows, Goes, Writes, Makes, Spawns, Enters, Sends, Leaves}, Step.{task_move, around}, Safety.{touched_name, access_of, access}, Ahead.{by_move, of_frames, ahead_of}, Parts.{of_tasks, of_actor}}
 use Rattle.pc_semantics.specs.declared.ahead.Ahead.TheVariants as ahead
-use Rattle.pc_semantics.specs.Ahead.{by_move, of_frames, ahead_of}
-use Rattle.pc_semantics.specs.Parts.{of_tasks, of_actor}
-use Rattle.pc_events.proofs.Changes.{Heaping, Same, Sets, New, Change, planned, plan_print, plan_begun, plan_begin, plan_message, plan}
-use Rattle.pc_events.proofs.Plans.{view}
-use Rattle.pc_events.proofs.Right.{Right, right, touch}
+use Rattle.pc_events.proofs.{Changes.{Heaping, Same, Sets, New, Change, planned, plan_print, plan_begun, plan_begin, plan_message, plan}, Plans.view, Right.{Right, right, touch}}
 
 -- The address at which an object is made: that of a new actor, or the next one of the actor.
 abbrev pub place_of : ObjectMap → ℕ → ℕ → Option Message → Address

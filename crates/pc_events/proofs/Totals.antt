@@ -1,23 +1,11 @@
 -- How many messages a mailbox was given, place by place.
 use Rattle.std.specs.Prelude.{◌≡◌, ◌≢◌, ◌⊎◌, ◌<◌, ◌≤◌, ℕ, zero, suc, ◌+◌, Bool, true, false, ◌&&◌, if◌then◌else◌, nat_eq, List, length, Some, None, slice_get, refl}
-use Rattle.std.proofs.Common.{inl, inr, ap, sym, subst, ◌∙◌, arith}
-use Rattle.std.proofs.lemmas.Option.{same_Some, none-some}
-use Rattle.std.proofs.lemmas.Bool.Decides.{eqb_tells, leb_tells}
+use Rattle.std.proofs.{Common.{inl, inr, ap, sym, subst, ◌∙◌, arith}, lemmas.Option.{same_Some, none-some}, lemmas.Bool.Decides.{eqb_tells, leb_tells}}
 use Rattle.pc_core.specs.CoreData.{CoreData}
-use Rattle.pc_semantics.specs.declared.outcome.Outcome.TheVariants.{Moved, Skipped}
-use Rattle.pc_semantics.specs.Configurations.{Configuration, start}
-use Rattle.pc_semantics.specs.Step.{outcomes}
-use Rattle.pc_semantics.specs.declared.ahead.Ahead.{Ahead}
+use Rattle.pc_semantics.specs.{declared.outcome.Outcome.TheVariants.{Moved, Skipped}, Configurations.{Configuration, start}, Step.outcomes, declared.ahead.Ahead.Ahead, Ahead.ahead_of}
 use Rattle.pc_semantics.specs.declared.ahead.Ahead.TheVariants as ahead
-use Rattle.pc_semantics.specs.Ahead.{ahead_of}
-use Rattle.pc_events.proofs.Changes.{applied}
-use Rattle.pc_events.proofs.Plans.{plans}
-use Rattle.pc_events.proofs.Told.{told}
-use Rattle.pc_events.specs.Before.{at_place, Event, is_take, receiver_by, receiver_of, takes_one, taken_before, waiting_of, waiting_for}
-use Rattle.pc_events.proofs.Outcomes.{turn, skipped_next}
-use Rattle.pc_events.specs.Counting.{Live, total, Put}
-use Rattle.pc_events.proofs.Closed.{moved_next, skipped_behind}
-use Rattle.pc_events.proofs.Boxes.{Boxes, boxes, none_behind}
+use Rattle.pc_events.proofs.{Changes.applied, Plans.plans, Told.told, Outcomes.{turn, skipped_next}, Closed.{moved_next, skipped_behind}, Boxes.{Boxes, boxes, none_behind}}
+use Rattle.pc_events.specs.{Before.{at_place, Event, is_take, receiver_by, receiver_of, takes_one, taken_before, waiting_of, waiting_for}, Counting.{Live, total, Put}}
 
 -- ---- a place
 

@@ -1,6 +1,6 @@
 -- What a step leaves unchanged in the objects: everything but the field that its actor was about to write.
 use Rattle.std.specs.Prelude.{◌≡◌, ◌⊎◌, ℕ, true, Some, None}
-use Rattle.pc_heap.specs.{Objects.class_at, Fields.field_at, Fields.value_at, declared.value.Address.Address}
+use Rattle.pc_heap.specs.{Objects.class_at, Fields.{field_at, value_at}, declared.value.Address.Address}
 use Rattle.pc_core.specs.CoreData.{CoreData}
 use Rattle.pc_semantics.specs.{Configurations.Configuration, Safety.access}
 

@@ -1,7 +1,7 @@
 -- What is proved of each step: it ends as was said in advance, and only accesses change fields.
 use Rattle.std.specs.Prelude.{◌≡◌, ℕ, List}
 use Rattle.pc_core.specs.CoreData.{CoreData}
-use Rattle.pc_semantics.specs.{declared.outcome.Lack.Lack, declared.outcome.Outcome.Outcome, declared.outcome.Outcome.TheVariants.Moved, declared.outcome.Outcome.TheVariants.Skipped, declared.outcome.Outcome.TheVariants.Lacks, declared.outcome.Outcome.TheVariants.TooLong, Configurations.Configuration, Step.step, Step.after, declared.ahead.Ahead.Ahead, Ahead.ahead_of}
+use Rattle.pc_semantics.specs.{declared.outcome.Lack.Lack, declared.outcome.Outcome.Outcome, declared.outcome.Outcome.TheVariants.{Moved, Skipped, Lacks, TooLong}, Configurations.Configuration, Step.{step, after}, declared.ahead.Ahead.Ahead, Ahead.ahead_of}
 use Rattle.pc_events.specs.Accesses.{OnlyAccessed}
 use Rattle.pc_semantics.specs.declared.ahead.Ahead.TheVariants as ahead
 

@@ -1,7 +1,7 @@
 -- Which event of a run comes before which.
 use Rattle.std.specs.Prelude.{◌≡◌, ℕ, ◌+◌, ◌<◌, Bool, true, false, ◌&&◌, if◌then◌else◌, nat_eq, List, [], ◌∷◌, take, length, Option, Some, None, slice_get}
 use Rattle.pc_core.specs.CoreData.{CoreData}
-use Rattle.pc_semantics.specs.{declared.actors.Actor.Actor, declared.outcome.Outcome.TheVariants.Moved, Configurations.Configuration, Configurations.start, Step.step, Step.followed, Step.after, Step.outcomes, declared.ahead.Ahead.Ahead, Ahead.ahead_of}
+use Rattle.pc_semantics.specs.{declared.actors.Actor.Actor, declared.outcome.Outcome.TheVariants.Moved, Configurations.{Configuration, start}, Step.{step, followed, after, outcomes}, declared.ahead.Ahead.Ahead, Ahead.ahead_of}
 use Rattle.pc_semantics.specs.declared.ahead.Ahead.TheVariants as ahead
 
 -- The configuration in which a place of a list has its turn.

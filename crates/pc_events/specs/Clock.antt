@@ -1,6 +1,6 @@
 -- Clocks, and events that conflict.
 use Rattle.std.specs.Prelude.{◌≡◌, ◌⊎◌, ℕ, List, length, ◌≢◌, true, Some}
-use Rattle.pc_lists.specs.Lists.{Ascends, Each, Has}
+use Rattle.pc_base.specs.Lists.{Ascends, Each, Has}
 use Rattle.pc_core.specs.CoreData.{CoreData}
 use Rattle.pc_events.specs.Before.{at_place, Event, Before}
 use Rattle.pc_semantics.specs.{declared.access.Access.Access, Safety.access}

@@ -1,8 +1,8 @@
 -- The events of an actor and the messages of a mailbox, counted, and what a clock counts that is kept along a run.
 use Rattle.std.specs.Prelude.{◌≡◌, ◌⊎◌, ◌<◌, ◌≤◌, ℕ, zero, suc, ◌+◌, Bool, false, ◌&&◌, nat_eq, List, Option, Some, None, slice_get}
-use Rattle.pc_lists.specs.Counts.{one_if}
+use Rattle.pc_base.specs.Counts.{one_if}
 use Rattle.pc_core.specs.CoreData.{CoreData}
-use Rattle.pc_semantics.specs.{declared.outcome.Outcome.Outcome, declared.outcome.Outcome.TheVariants.Moved, declared.outcome.Outcome.TheVariants.Skipped, Step.outcomes, Text.is_moved}
+use Rattle.pc_semantics.specs.{declared.outcome.Outcome.Outcome, declared.outcome.Outcome.TheVariants.{Moved, Skipped}, Step.outcomes, Text.is_moved}
 use Rattle.pc_events.specs.Before.{at_place, Event, receiver_of, taken_before, waiting_for, Before}
 
 -- ---- runs

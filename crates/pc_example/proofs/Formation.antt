@@ -1,23 +1,14 @@
 -- The core of the small program is formed.
 use Rattle.std.specs.Prelude.{◌≡◌, ℕ, zero, suc, nat_eq, if◌then◌else◌, List, [], ◌∷◌, map, length, Some, slice_get, refl}
-use Rattle.std.proofs.Common.{inl, inr, ap, sym, subst, ◌∙◌, arith}
-use Rattle.std.proofs.lemmas.Option.{same_Some, none-some}
+use Rattle.std.proofs.{Common.{inl, inr, ap, sym, subst, ◌∙◌, arith}, lemmas.Option.{same_Some, none-some}}
 use Rattle.pc_caps.specs.declared.capability.Cap.{Cap}
 use Rattle.pc_caps.specs.declared.capability.Cap.TheVariants as cap
 use Rattle.pc_tree.specs.declared.kinds.MethodWord.TheVariants as word
-use Rattle.pc_core.specs.declared.declarations.EntityDef.{EntityDef}
-use Rattle.pc_core.specs.declared.declarations.Method.{Method}
-use Rattle.pc_core.specs.declared.nodes.Slot.{Slot}
+use Rattle.pc_core.specs.{declared.declarations.EntityDef.EntityDef, declared.declarations.Method.Method, declared.nodes.Slot.Slot, declared.nodes.Node.Node, Entities.{built_in_value, Leads, one, more}, EntityFits.EntityFits, Methods.{MethodFits, BodyFits, LocalFits}, Nodes.NodeFits, Formed.Formed}
 use Rattle.pc_core.specs.declared.nodes.SlotKind.TheVariants as slot
-use Rattle.pc_core.specs.declared.nodes.Node.{Node}
-use Rattle.pc_lists.specs.Lists.{Each, Has, Differ}
-use Rattle.pc_core.specs.Entities.{built_in_value, Leads, one, more}
-use Rattle.pc_core.specs.EntityFits.{EntityFits}
-use Rattle.pc_core.specs.Methods.{MethodFits, BodyFits, LocalFits}
-use Rattle.pc_core.specs.Nodes.{NodeFits}
-use Rattle.pc_core.specs.Formed.{Formed}
+use Rattle.pc_base.specs.Lists.{Each, Has, Differ}
 use Rattle.pc_rules.specs.Example.{four_slots, class_c, actor_main, create_c, create_main}
-use Rattle.pc_lists.proofs.Elements.{each_none, differ_none, ascends_none}
+use Rattle.pc_base.proofs.Elements.{each_none, differ_none, ascends_none}
 
 -- ---- lists, element by element
 

@@ -1,18 +1,13 @@
 -- The derivation of the small program is valid.
 use Rattle.std.specs.Prelude.{◌≡◌, ℕ, zero, suc, ◌<◌, true, length, Some, slice_get, refl}
-use Rattle.std.proofs.Common.{ap, sym, subst, ◌∙◌, arith}
-use Rattle.std.proofs.lemmas.Option.{same_Some}
+use Rattle.std.proofs.{Common.{ap, sym, subst, ◌∙◌, arith}, lemmas.Option.same_Some}
 use Rattle.pc_ann.specs.declared.annotation.Note.{Note}
 use Rattle.pc_sub.specs.Declarations.{DeclOk}
-use Rattle.pc_rules.specs.Parts.{full}
+use Rattle.pc_rules.specs.{Parts.full, Rules.NoteIsSaid, Checks.Checks, Example.{four_slots, derivation}}
 use Rattle.pc_valid.specs.Valid.{Valid}
-use Rattle.pc_rules.specs.Rules.{NoteIsSaid}
-use Rattle.pc_rules.specs.Checks.{Checks}
 use Rattle.pc_rules.proofs.Derivations.{valid_to}
-use Rattle.pc_rules.specs.Example.{four_slots, derivation}
 use Rattle.pc_example.proofs.Formation.{single, three, four, eight, four_slots_formed}
-use Rattle.pc_lists.proofs.Elements.{each_none}
-use Rattle.pc_lists.proofs.Bools.{false_true}
+use Rattle.pc_base.proofs.{Elements.each_none, Bools.false_true}
 
 declarations_ok : DeclOk four_slots
 declarations_ok = record {

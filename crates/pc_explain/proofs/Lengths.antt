@@ -1,11 +1,9 @@
 -- A definition does not change the number of slots.
-use Rattle.std.proofs.Common.{◌≡◌, ℕ, length, Option, Some, None, refl}
-use Rattle.std.proofs.lemmas.List.{length-set}
+use Rattle.std.proofs.{Common.{◌≡◌, ℕ, length, Option, Some, None, refl}, lemmas.List.length-set}
 use Rattle.pc_ann.specs.declared.annotation.Ann.{Ann}
 use Rattle.pc_caps.specs.declared.capability.Cap.{Cap}
 use Rattle.pc_check.specs.Inference.{inferred_slot, with_inferred, with_inferred_slot}
-use Rattle.pc_core.specs.CoreData.{CoreData}
-use Rattle.pc_core.specs.declared.nodes.Node.{Node}
+use Rattle.pc_core.specs.{CoreData.CoreData, declared.nodes.Node.Node}
 
 same_by : (ann : Ann) (o : Option (ℕ × (ℕ × Cap))) → length (with_inferred_slot ann o).slots ≡ length ann.slots
 same_by ann None = refl

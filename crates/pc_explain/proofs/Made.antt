@@ -1,21 +1,15 @@
 -- From the text that was made to the explanation that it is.
 use Rattle.std.specs.Prelude.{◌≡◌, ℕ, List, [], Option, Some, None, slice_get}
-use Rattle.std.proofs.Common.{ap, sym, subst, ◌∙◌}
-use Rattle.std.proofs.lemmas.Option.{same_Some, none-some}
-use Rattle.pc_ann.specs.declared.annotation.Ann.{Ann}
-use Rattle.pc_ann.specs.declared.annotation.Note.{Note}
+use Rattle.std.proofs.{Common.{ap, sym, subst, ◌∙◌}, lemmas.Option.{same_Some, none-some}}
+use Rattle.pc_ann.specs.{declared.annotation.Ann.Ann, declared.annotation.Note.Note}
 use Rattle.pc_check.specs.Faults.{StopsAt, InferenceLeavesUnset}
-use Rattle.pc_core.specs.CoreData.{CoreData}
-use Rattle.pc_core.specs.declared.declarations.Method.{Method}
-use Rattle.pc_core.specs.declared.nodes.Node.{Node}
-use Rattle.pc_lists.specs.Lists.{◌>>=◌, Text}
+use Rattle.pc_core.specs.{CoreData.CoreData, declared.declarations.Method.Method, declared.nodes.Node.Node}
+use Rattle.pc_base.specs.Lists.{◌>>=◌, Text}
 use Rattle.pc_valid.specs.Words.{Masks}
-use Rattle.pc_sub.specs.FirstFault.{IsFirstDeclarationFault}
-use Rattle.pc_sub.specs.declared.faults.DeclFault.{DeclFault}
+use Rattle.pc_sub.specs.{FirstFault.IsFirstDeclarationFault, declared.faults.DeclFault.DeclFault}
 use Rattle.pc_token.specs.declared.kinds.Token.{Token}
-use Rattle.pc_words.specs.Scene.{SceneData}
-use Rattle.pc_explain.specs.Explanation.{IsExplanation, method_body_note, declaration_text, node_explanation, reasons_of, scene_of, stop_at, unset_text}
-use Rattle.pc_explain.specs.Explanation.IsExplanation.{declared, no_rule, unset}
+use Rattle.pc_explain_words.specs.Scene.{SceneData}
+use Rattle.pc_explain.specs.{Explanation.{IsExplanation, method_body_note, declaration_text, node_explanation, reasons_of, scene_of, stop_at, unset_text}, Explanation.IsExplanation.{declared, no_rule, unset}}
 
 module _ (name bytes : Text) (tokens : List Token) (core : CoreData) where
   abbrev Explains : Text → Type 0

@@ -1,9 +1,8 @@
 -- The notes of nodes, looked up one after another.
 use Rattle.std.specs.Prelude.{◌≡◌, ℕ, ◌+◌, ◌<◌, List, [], ◌∷◌, ◌++◌, length, Option, Some, None, drop, get_or, option_map, slice_get, refl}
-use Rattle.std.proofs.Common.{ap, sym, ◌∙◌, append_assoc}
-use Rattle.std.proofs.lemmas.List.{drop_more}
+use Rattle.std.proofs.{Common.{ap, sym, ◌∙◌, append_assoc}, lemmas.List.drop_more}
 use Rattle.pc_ann.specs.declared.annotation.Note.{Note}
-use Rattle.pc_lists.specs.Lists.{◌>>=◌}
+use Rattle.pc_base.specs.Lists.{◌>>=◌}
 use Rattle.pc_rules.specs.Parts.{notes_of}
 
 -- Of one node that has no note there are none.

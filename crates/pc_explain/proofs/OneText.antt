@@ -1,29 +1,16 @@
 -- A core has at most one explanation, and one that has a derivation has none.
 use Rattle.std.specs.Prelude.{◌≡◌, ℕ, ◌+◌, ◌<◌, List, [], length, Some, slice_get}
-use Rattle.std.proofs.Common.{ap, sym, ◌∙◌, arith}
-use Rattle.std.proofs.lemmas.Option.{same_Some}
-use Rattle.pc_ann.specs.declared.annotation.Ann.{Ann}
-use Rattle.pc_ann.specs.declared.annotation.Note.{Note}
+use Rattle.std.proofs.{Common.{ap, sym, ◌∙◌, arith}, lemmas.Option.same_Some}
+use Rattle.pc_ann.specs.{declared.annotation.Ann.Ann, declared.annotation.Note.Note}
 use Rattle.pc_check.specs.Faults.{StopsAt, InferenceLeavesUnset}
 use Rattle.pc_check.specs.Laws as faults
-use Rattle.pc_conditions.specs.Laws.{OneExplanation}
-use Rattle.pc_conditions.specs.declared.reason.Reason.{Reason}
-use Rattle.pc_core.specs.CoreData.{CoreData}
-use Rattle.pc_core.specs.Formed.{Formed}
-use Rattle.pc_core.specs.declared.declarations.Method.{Method}
-use Rattle.pc_core.specs.declared.nodes.Node.{Node}
-use Rattle.pc_lists.specs.Lists.{Text}
-use Rattle.pc_valid.specs.Words.{Masks}
-use Rattle.pc_valid.specs.Valid.{KeepsWritten}
-use Rattle.pc_valid.specs.NoRule.{MeetsReached}
-use Rattle.pc_sub.specs.Declarations.{DeclOk}
-use Rattle.pc_sub.specs.DeclarationLaws.{NoFaultWhereFit, OneFirstFault}
-use Rattle.pc_sub.specs.FirstFault.{IsFirstDeclarationFault}
-use Rattle.pc_sub.specs.declared.faults.DeclFault.{DeclFault}
+use Rattle.pc_explain_conditions.specs.{Laws.OneExplanation, declared.reason.Reason.Reason}
+use Rattle.pc_core.specs.{CoreData.CoreData, Formed.Formed, declared.declarations.Method.Method, declared.nodes.Node.Node}
+use Rattle.pc_base.specs.Lists.{Text}
+use Rattle.pc_valid.specs.{Words.Masks, Valid.KeepsWritten, NoRule.MeetsReached}
+use Rattle.pc_sub.specs.{Declarations.DeclOk, DeclarationLaws.{NoFaultWhereFit, OneFirstFault}, FirstFault.IsFirstDeclarationFault, declared.faults.DeclFault.DeclFault}
 use Rattle.pc_token.specs.declared.kinds.Token.{Token}
-use Rattle.pc_explain.specs.Explanation.{all_of, declaration_text, node_explanation, reasons_of, scene_of, stop_at, unset_text}
-use Rattle.pc_explain.specs.Explanation.IsExplanation.{declared, no_rule, unset}
-use Rattle.pc_explain.specs.Laws.{AcceptedHasNone, ExplanationsAreOne}
+use Rattle.pc_explain.specs.{Explanation.{all_of, declaration_text, node_explanation, reasons_of, scene_of, stop_at, unset_text}, Explanation.IsExplanation.{declared, no_rule, unset}, Laws.{AcceptedHasNone, ExplanationsAreOne}}
 use Rattle.pc_explain.proofs.SameLists.{same_lists}
 
 -- ---- the notes that an explanation looks at

@@ -1,14 +1,12 @@
 -- The reasons by the types of the slots and the notes of the children.
 use Rattle.std.specs.Prelude.{◌≡◌, ℕ, List, Option, Some, None, Result, Ok, Err, IfOk, refl}
 use Rattle.std.proofs.Common.{ap, sym, ◌∙◌}
-use Rattle.pc_ann.specs.declared.annotation.Ann.{Ann}
-use Rattle.pc_ann.specs.declared.annotation.Note.{Note}
+use Rattle.pc_ann.specs.{declared.annotation.Ann.Ann, declared.annotation.Note.Note}
 use Rattle.pc_caps.specs.declared.capability.Cap.{Cap}
 use Rattle.pc_check.specs.Inference.{inferred_slot, with_inferred, with_inferred_slot}
-use Rattle.pc_conditions.specs.Failing.{reasons}
-use Rattle.pc_core.specs.CoreData.{CoreData}
-use Rattle.pc_core.specs.declared.nodes.Node.{Node}
-use Rattle.pc_lists.specs.Lists.{◌>>=◌}
+use Rattle.pc_explain_conditions.specs.Failing.{reasons}
+use Rattle.pc_core.specs.{CoreData.CoreData, declared.nodes.Node.Node}
+use Rattle.pc_base.specs.Lists.{◌>>=◌}
 use Rattle.pc_rules.specs.Parts.{notes_of}
 use Rattle.pc_valid.specs.Words.{Masks, Slots}
 use Rattle.pc_explain.specs.Explanation.{all_of, reasons_by, reasons_of}

@@ -1,7 +1,6 @@
 -- Lists with the same elements at each place.
 use Rattle.std.specs.Prelude.{◌≡◌, ℕ, suc, ◌<◌, List, [], ◌∷◌, length, slice_get, refl}
-use Rattle.std.proofs.Common.{ap₂, arith}
-use Rattle.std.proofs.lemmas.Option.{same_Some}
+use Rattle.std.proofs.{Common.{ap₂, arith}, lemmas.Option.same_Some}
 
 pub same_lists : {T : Type 0} → (xs ys : List T) → length xs ≡ length ys → ((k : ℕ) → k < length xs → slice_get xs k ≡ slice_get ys k) → xs ≡ ys
 same_lists [] [] l h = refl

@@ -2,8 +2,7 @@
 use Rattle.std.specs.Prelude.{◌≡◌, ℕ, zero, suc, ◌+◌, ◌<◌, Bool, true, List, [], ◌∷◌, length, Some, drop, if◌then◌else◌}
 use Rattle.std.proofs.Common.{ap, ◌∙◌, arith}
 use Rattle.pc_core.specs.declared.declarations.FieldInfo.{FieldInfo}
-use Rattle.pc_masks.specs.Masks.{has}
-use Rattle.pc_masks.specs.declared.mask.Mask.{Mask}
+use Rattle.pc_masks.specs.{Masks.has, declared.mask.Mask.Mask}
 use Rattle.pc_explain.specs.Setting.{first_unset}
 
 passed_from : (set : Mask) (fields : List FieldInfo) (i j : ℕ) → i < length fields → has set j ≡ true → first_unset set j (drop i fields) ≡ first_unset set (j + 1) (drop (i + 1) fields)

@@ -1,17 +1,16 @@
 -- The lines about a declaration that fails.
-use Rattle.std.specs.Prelude.{ℕ, Bool, ◌&&◌, nat_eq, List, [], ◌∷◌, ◌++◌, Option, Some, None, slice_get, codes}
-use Rattle.std.specs.{List.find, Option.is_some}
-use Rattle.pc_core.specs.{CoreData.CoreData, CoreData.method_named, declared.declarations.EntityDef.EntityDef, declared.declarations.Method.Method, declared.declarations.ParamInfo.ParamInfo, declared.declarations.MethodKind.MethodKind}
-use Rattle.pc_caps.specs.declared.capability.Form.{Form}
-use Rattle.pc_lists.specs.Lists.{Text, line_end}
+use Rattle.std.specs.{Prelude.{ℕ, Bool, ◌&&◌, nat_eq, List, [], ◌∷◌, ◌++◌, Option, Some, None, slice_get, codes}, List.find, Option.is_some}
+use Rattle.pc_core.specs.{CoreData.{CoreData, method_named}, declared.declarations.EntityDef.EntityDef, declared.declarations.Method.Method, declared.declarations.ParamInfo.ParamInfo, declared.declarations.MethodKind.MethodKind}
+use Rattle.pc_caps.specs.{declared.capability.Form.Form, Words.cap_name}
+use Rattle.pc_base.specs.Lists.{Text, line_end}
 use Rattle.pc_sub.specs.declared.faults.DeclFault.{DeclFault}
 use Rattle.pc_explain_names.specs.Bearers.{kind_word}
-use Rattle.pc_window.specs.{Places.piece_of, Quoting.piece, Quoting.quoted}
-use Rattle.pc_words.specs.{Caps.cap_word, Caps.new_word, Lacks.methods_in, Misfits.first_misfit, Misfits.misfit, Scene.SceneData}
+use Rattle.pc_explain_window.specs.{Places.piece_of, Quoting.{piece, quoted}}
+use Rattle.pc_explain_words.specs.{Caps.new_word, Lacks.methods_in, Misfits.{first_misfit, misfit}, Scene.SceneData}
 use Rattle.pc_core.specs.declared.declarations.MethodKind.TheVariants as kind
 use Rattle.pc_sub.specs.declared.faults.DeclFault.TheVariants as decl
-use Rattle.pc_words.specs.Forms as forms
-use Rattle.pc_words.specs.Methods as methods
+use Rattle.pc_explain_words.specs.Forms as forms
+use Rattle.pc_explain_words.specs.Methods as methods
 
 -- ---- a parameter that is not sendable
 
@@ -31,7 +30,7 @@ parameter_line s m p =
 
 unfoldable pub sendable_line : Method → ParamInfo → Text
 sendable_line m p =
-    codes "rule parameters: " ++ (cap_word p.cap ++ (codes " is not sendable, and " ++ (taker m.kind m.result.1 ++ (codes " takes only parameters of iso, val or tag" ++ line_end))))
+    codes "rule parameters: " ++ (cap_name p.cap ++ (codes " is not sendable, and " ++ (taker m.kind m.result.1 ++ (codes " takes only parameters of iso, val or tag" ++ line_end))))
 
 unfoldable pub declare_hint : Text → Text
 declare_hint name =

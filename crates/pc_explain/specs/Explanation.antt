@@ -1,20 +1,19 @@
 -- The explanation of a core that has no derivation.
 use Rattle.std.specs.Prelude.{◌≡◌, ℕ, Bool, true, false, List, [], ◌∷◌, ◌++◌, length, map, Option, Some, None, slice_get, codes}
 use Rattle.pc_ann.specs.{declared.annotation.Ann.Ann, declared.annotation.Note.Note, declared.annotation.Rule.Rule}
-use Rattle.pc_caps.specs.declared.span.Span.{Span}
-use Rattle.pc_check.specs.{Faults.StopsAt, Faults.InferenceLeavesUnset, Inference.with_inferred}
-use Rattle.pc_conditions.specs.{Failing.reasons, Failing.reasons_at, declared.reason.Reason.Reason}
+use Rattle.pc_base.specs.{declared.span.Span.Span, Lists.{◌>>=◌, Text}}
+use Rattle.pc_check.specs.{Faults.{StopsAt, InferenceLeavesUnset}, Inference.with_inferred}
+use Rattle.pc_explain_conditions.specs.{Failing.{reasons, reasons_at}, declared.reason.Reason.Reason}
 use Rattle.pc_core.specs.{CoreData.CoreData, declared.declarations.EntityDef.EntityDef, declared.declarations.Method.Method, declared.declarations.ParamInfo.ParamInfo, declared.nodes.Node.Node}
-use Rattle.pc_hints.specs.Hints.{hint}
-use Rattle.pc_lists.specs.Lists.{◌>>=◌, Text}
+use Rattle.pc_explain_hints.specs.Hints.{hint}
 use Rattle.pc_refusals.specs.FaultLines.{decl_text}
 use Rattle.pc_valid.specs.Words.{Masks, Slots}
-use Rattle.pc_sentences.specs.{Sentences.sentence, Stop.StopData}
+use Rattle.pc_explain_sentences.specs.{Sentences.sentence, Stop.StopData}
 use Rattle.pc_sub.specs.{FirstFault.IsFirstDeclarationFault, declared.faults.DeclFault.DeclFault}
 use Rattle.pc_token.specs.declared.kinds.Token.{Token}
-use Rattle.pc_window.specs.Head.{head}
-use Rattle.pc_parts.specs.{NodeWords.node_line, Parts.part_lines}
-use Rattle.pc_words.specs.Scene.{SceneData}
+use Rattle.pc_explain_window.specs.Head.{head}
+use Rattle.pc_explain_parts.specs.{NodeWords.node_line, Parts.part_lines}
+use Rattle.pc_explain_words.specs.Scene.{SceneData}
 use Rattle.pc_explain.specs.{Declarations.declaration_lines, Known.known_slots, RuleLines.rule_lines, Setting.unset_lines, declared.rule_lines.Reported.Reported}
 use Rattle.pc_ann.specs.declared.annotation.Rule.TheVariants as rule
 use Rattle.pc_sub.specs.declared.faults.DeclFault.TheVariants as decl

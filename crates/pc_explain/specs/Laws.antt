@@ -1,7 +1,7 @@
 -- What is proved of explanations.
 use Rattle.std.specs.Prelude.{◌≡◌, List}
 use Rattle.pc_core.specs.{CoreData.CoreData, Formed.Formed}
-use Rattle.pc_lists.specs.Lists.{Text}
+use Rattle.pc_base.specs.Lists.{Text}
 use Rattle.pc_valid.specs.Valid.{Derivable}
 use Rattle.pc_token.specs.declared.kinds.Token.{Token}
 use Rattle.pc_explain.specs.Explanation.{IsExplanation}

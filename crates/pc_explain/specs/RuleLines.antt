@@ -1,8 +1,7 @@
 -- The lines about the rules for a node at which none holds.
-use Rattle.std.specs.Prelude.{Bool, List, [], ◌∷◌, ◌++◌, codes, flat_map, if◌then◌else◌}
-use Rattle.std.specs.{List.list_any, Str.bytes_eq}
+use Rattle.std.specs.{Prelude.{Bool, List, [], ◌∷◌, ◌++◌, codes, flat_map, if◌then◌else◌}, List.list_any, Str.bytes_eq}
 use Rattle.pc_ann.specs.declared.annotation.Rule.{Rule}
-use Rattle.pc_lists.specs.Lists.{Text, line_end}
+use Rattle.pc_base.specs.Lists.{Text, line_end}
 use Rattle.pc_explain.specs.declared.rule_lines.Reported.{Reported}
 use Rattle.pc_ann.specs.declared.annotation.Rule.TheVariants as rule
 

@@ -7,13 +7,13 @@ ghost use Rattle.pc_explain.specs.Declarations as spec;
 use pc_caps::Form;
 use pc_core::{Core, Method, MethodKind, ParamInfo};
 use pc_explain_names::kind_word;
-use pc_sub::DeclFault;
-use pc_window::{piece_of, push_bytes, push_piece, push_quoted};
-use pc_words::{
+use pc_explain_window::{piece_of, push_bytes, push_piece, push_quoted};
+use pc_explain_words::{
     Scene, cap_word, entity_name, first_misfit, methods_at, name_text, new_word, push_entity,
     push_method, push_method_words, push_misfit, push_place_type, push_signature,
     push_with_article,
 };
+use pc_sub::DeclFault;
 use std::alloc::{AllocError, Global};
 
 fn push_creator(out: &mut Vec<u8>, form: Form) -> Result<(), AllocError>

@@ -13,18 +13,19 @@ use crate::known::{known_slots, with_node};
 use crate::rule_lines::{Reported, push_rule_lines};
 use crate::setting::push_unset_lines;
 use pc_ann::{Ann, Note, Rule};
-use pc_caps::{Cap, List, Span};
+use pc_base::{List, Span};
+use pc_caps::Cap;
 use pc_check::CheckFault;
-use pc_conditions::{Reason, Site, reasons};
 use pc_core::{Core, Method, Node};
-use pc_hints::push_hint;
+use pc_explain_conditions::{Reason, Site, reasons};
+use pc_explain_hints::push_hint;
+use pc_explain_parts::{push_node_line, push_part_lines};
+use pc_explain_sentences::{Stop, push_sentence};
+use pc_explain_window::push_head;
+use pc_explain_words::Scene;
 use pc_masks::Mask;
-use pc_parts::{push_node_line, push_part_lines};
-use pc_sentences::{Stop, push_sentence};
 use pc_sub::DeclFault;
 use pc_token::Token;
-use pc_window::push_head;
-use pc_words::Scene;
 use std::alloc::{AllocError, Global};
 
 // What an explanation looks at: a source, its core, and what is known of its first nodes.

@@ -4,7 +4,8 @@ ghost use Rattle.pc_check.specs.Inference as inference;
 ghost use Rattle.pc_explain.specs.Known as spec;
 
 use pc_ann::{Ann, Note};
-use pc_caps::{Cap, Form, List, stored};
+use pc_base::List;
+use pc_caps::{Cap, Form, stored};
 use pc_core::{Core, Node, NodeKind, Slot};
 use pc_tree::NONE_ENTITY;
 use std::alloc::{AllocError, Global};

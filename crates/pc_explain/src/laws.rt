@@ -5,7 +5,7 @@ use pc_check::{
     faults_are_one, nothing_is_derivable_with_a_declaration_that_fails,
     nothing_is_derivable_with_a_field_unset, nothing_is_derivable_without_a_rule, prefixes_agree,
 };
-use pc_conditions::one_explanation;
+use pc_explain_conditions::one_explanation;
 use pc_sub::{no_fault_where_declarations_fit, one_declaration_fails_first};
 
 /// A core has at most one explanation.

@@ -4,8 +4,8 @@ ghost use Rattle.std.specs.List.{list_any};
 ghost use Rattle.pc_explain.specs.RuleLines as spec;
 
 use pc_ann::Rule;
-use pc_caps::List;
-use pc_window::push_bytes;
+use pc_base::List;
+use pc_explain_window::push_bytes;
 use std::alloc::AllocError;
 
 /// A rule that is looked at and does not hold: the sentence of its condition that fails, and what to do about it, if

@@ -8,9 +8,9 @@ ghost use Rattle.pc_explain.specs.Setting as spec;
 
 use crate::known::first_nodes;
 use pc_core::{Core, EntityDef, FieldInfo, Method, Node, NodeKind};
+use pc_explain_window::{push_bytes, push_number, push_place, push_quoted};
+use pc_explain_words::{Scene, name_text, push_method, push_place_type};
 use pc_masks::Mask;
-use pc_window::{push_bytes, push_number, push_place, push_quoted};
-use pc_words::{Scene, name_text, push_method, push_place_type};
 use std::alloc::{AllocError, Global};
 
 // How many places of writes are listed at most.

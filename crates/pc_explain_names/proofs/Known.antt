@@ -2,12 +2,9 @@
 use Rattle.std.proofs.Common.{◌≡◌, ℕ, List, [], ◌∷◌, map, Option, Some, None, refl, sym, ap, ◌∙◌}
 use Rattle.std.specs.Prelude.{slice_get}
 use Rattle.pc_tree.specs.Tree as t
-use Rattle.pc_members.specs.Edges.{edges_of, above_all}
-use Rattle.pc_members.specs.Members.{Member}
-use Rattle.pc_members.specs.MemberLists.{members}
+use Rattle.pc_members.specs.{Edges.{edges_of, above_all}, Members.Member, MemberLists.members}
 use Rattle.pc_members.proofs.Closings.{closes}
-use Rattle.pc_names.specs.declared.fault.NameFault.{NameFault}
-use Rattle.pc_names.specs.Faults.{IsNotMemory, Collected, IsNameFault, NamesData, name_faults}
+use Rattle.pc_names.specs.{declared.fault.NameFault.NameFault, Faults.{IsNotMemory, Collected, IsNameFault, NamesData, name_faults}}
 use Rattle.pc_names.proofs.Ones.{first_is, one_closing}
 use Rattle.pc_explain_names.specs.Rows.{all_faults, rows, rows_if}
 

@@ -1,8 +1,6 @@
 -- The last of the first elements of a list, as they are seen.
-use Rattle.std.proofs.Common.{◌≡◌, ◌≢◌, ℕ, zero, suc, ◌-◌, List, map, Option, Some, None, Bor, refl, sym, arith}
-use Rattle.std.specs.Prelude.{slice_get}
-use Rattle.std.specs.Option.{option_copied, option_map}
-use Rattle.std.proofs.lemmas.Option.{slice_get-map}
+use Rattle.std.proofs.{Common.{◌≡◌, ◌≢◌, ℕ, zero, suc, ◌-◌, List, map, Option, Some, None, Bor, refl, sym, arith}, lemmas.Option.slice_get-map}
+use Rattle.std.specs.{Prelude.slice_get, Option.{option_copied, option_map}}
 use Rattle.pc_explain_names.specs.Homes.{last_of_first}
 
 pub viewed : {T V : Type 0} (v : T → V) (o : Option (Bor T)) → option_map (λ (e : Bor T). v e.now) o ≡ option_map v (option_copied o)

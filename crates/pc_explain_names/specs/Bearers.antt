@@ -1,10 +1,8 @@
 -- What already has a name.
-use Rattle.std.specs.Prelude.{ℕ, Bool, ◌||◌, List, [], ◌∷◌, map, Option, Some, None, codes, is_some, if◌then◌else◌}
-use Rattle.std.specs.{List.find, Str.bytes_eq}
-use Rattle.pc_caps.specs.declared.span.Span.{Span}
-use Rattle.pc_lists.specs.Lists.{Text}
+use Rattle.std.specs.{Prelude.{ℕ, Bool, ◌||◌, List, [], ◌∷◌, map, Option, Some, None, codes, is_some, if◌then◌else◌}, List.find, Str.bytes_eq}
+use Rattle.pc_base.specs.{declared.span.Span.Span, Lists.Text}
 use Rattle.pc_tree.specs.declared.kinds.EntityKind.{EntityKind}
-use Rattle.pc_explain_names.specs.{declared.bearers.Bearer.Bearer, Homes.param_spans_of, Homes.marks_at, Lists.field_span, Lists.method_name_span, Lists.is_other, Marks.locals}
+use Rattle.pc_explain_names.specs.{declared.bearers.Bearer.Bearer, Homes.{param_spans_of, marks_at}, Lists.{field_span, method_name_span, is_other}, Marks.locals}
 use Rattle.pc_tree.specs.Tree as t
 use Rattle.pc_tree.specs.declared.kinds.EntityKind.TheVariants as kind
 use Rattle.pc_explain_names.specs.declared.bearers.Bearer.TheVariants as bearer

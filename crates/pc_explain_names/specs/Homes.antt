@@ -1,7 +1,7 @@
 -- Where a byte is in a file.
 use Rattle.std.specs.Prelude.{ℕ, zero, suc, Bool, nat_le, List, [], ◌∷◌, ◌++◌, map, Option, Some, None, slice_get, count_by}
-use Rattle.pc_caps.specs.declared.span.Span.{Span}
-use Rattle.pc_explain_names.specs.{declared.marks.Mark.Mark, Lists.entity_name_span, Lists.method_name_span, Lists.param_name_span, Marks.expr_marks, Marks.seq_marks, Marks.locals}
+use Rattle.pc_base.specs.declared.span.Span.{Span}
+use Rattle.pc_explain_names.specs.{declared.marks.Mark.Mark, Lists.{entity_name_span, method_name_span, param_name_span}, Marks.{expr_marks, seq_marks, locals}}
 use Rattle.pc_tree.specs.Tree as t
 
 abbrev pub begins_by : ℕ → Span → Bool

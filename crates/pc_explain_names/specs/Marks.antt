@@ -1,6 +1,6 @@
 -- What is found on the way to a place in the tree of a method's body.
 use Rattle.std.specs.Prelude.{ℕ, Bool, ◌&&◌, nat_eq, nat_le, nat_lt, List, [], ◌∷◌, ◌++◌, Option, Some, None, if◌then◌else◌}
-use Rattle.pc_caps.specs.declared.span.Span.{Span}
+use Rattle.pc_base.specs.declared.span.Span.{Span}
 use Rattle.pc_explain_names.specs.declared.marks.Mark.{Mark}
 use Rattle.pc_tree.specs.Tree as t
 use Rattle.pc_explain_names.specs.declared.marks.Mark.TheVariants as mark

@@ -1,12 +1,10 @@
 -- The lines about a fault of a file's names.
-use Rattle.std.specs.Prelude.{ℕ, Bool, true, false, List, [], ◌∷◌, ◌++◌, map, Option, Some, None, nat_eq, codes, if◌then◌else◌}
-use Rattle.std.specs.{List.find, List.list_any, Str.bytes_eq}
-use Rattle.pc_caps.specs.declared.span.Span.{Span}
-use Rattle.pc_lists.specs.Lists.{Text, line_end}
+use Rattle.std.specs.{Prelude.{ℕ, Bool, true, false, List, [], ◌∷◌, ◌++◌, map, Option, Some, None, nat_eq, codes, if◌then◌else◌}, List.{find, list_any}, Str.bytes_eq}
+use Rattle.pc_base.specs.{declared.span.Span.Span, Lists.{Text, line_end}}
 use Rattle.pc_members.specs.Members.{Member}
 use Rattle.pc_tree.specs.declared.kinds.EntityKind.{EntityKind}
-use Rattle.pc_window.specs.{Places.line_and_column, Places.piece_of, Quoting.piece, Quoting.quoted}
-use Rattle.pc_explain_names.specs.{declared.bearers.Bearer.Bearer, declared.marks.Mark.Mark, Bearers.bearer_of, Bearers.create_bearer, Bearers.is_built_in, Bearers.kind_word, Bearers.known_kind, Bearers.word, Homes.marks_at, Homes.visible_at, Lists.field_span, Lists.method_name_span, Lists.span_is_named, Lists.is_other, Lists.name_span, Lists.names_listed, Marks.use_in, Rows.has_member, Rows.member_names}
+use Rattle.pc_explain_window.specs.{Places.{line_and_column, piece_of}, Quoting.{piece, quoted}}
+use Rattle.pc_explain_names.specs.{declared.bearers.Bearer.Bearer, declared.marks.Mark.Mark, Bearers.{bearer_of, create_bearer, is_built_in, kind_word, known_kind, word}, Homes.{marks_at, visible_at}, Lists.{field_span, method_name_span, span_is_named, is_other, name_span, names_listed}, Marks.use_in, Rows.{has_member, member_names}}
 use Rattle.pc_tree.specs.Tree as t
 use Rattle.pc_tree.specs.declared.kinds.EntityKind.TheVariants as kind
 use Rattle.pc_explain_names.specs.declared.marks.Mark.TheVariants as mark

@@ -1,11 +1,10 @@
 -- The explanation of a fault of a file's names.
 use Rattle.std.specs.Prelude.{[], ◌++◌, Option, Some, None, codes}
-use Rattle.pc_caps.specs.declared.span.Span.{Span}
-use Rattle.pc_lists.specs.Lists.{Text}
+use Rattle.pc_base.specs.{declared.span.Span.Span, Lists.Text}
 use Rattle.pc_names.specs.declared.fault.NameFault.{NameFault}
 use Rattle.pc_refusal_lines.specs.Lines.{no_main_line}
-use Rattle.pc_window.specs.{Head.head, Places.piece_of}
-use Rattle.pc_explain_names.specs.{Homes.entity_around, Homes.method_at, Rows.members_at, NameLines.cycle_lines, NameLines.double_lines, NameLines.main_lines, NameLines.no_main_lines, NameLines.unknown_lines}
+use Rattle.pc_explain_window.specs.{Head.head, Places.piece_of}
+use Rattle.pc_explain_names.specs.{Homes.{entity_around, method_at}, Rows.members_at, NameLines.{cycle_lines, double_lines, main_lines, no_main_lines, unknown_lines}}
 use Rattle.pc_names.specs.declared.fault.NameFault.TheVariants as fault
 use Rattle.pc_tree.specs.Tree as t
 

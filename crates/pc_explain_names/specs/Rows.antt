@@ -1,11 +1,10 @@
 -- The members of a file's entities, and their names in words.
-use Rattle.std.specs.Prelude.{ℕ, Bool, true, false, List, [], ◌∷◌, ◌++◌, length, map, take}
-use Rattle.std.specs.{List.list_any, Str.bytes_eq}
-use Rattle.pc_lists.specs.Lists.{Text}
-use Rattle.pc_members.specs.{Edges.edges_of, Edges.above_all, Members.Member, Members.member_text, Parts.or_no_members, MemberLists.members}
+use Rattle.std.specs.{Prelude.{ℕ, Bool, true, false, List, [], ◌∷◌, ◌++◌, length, map, take}, List.list_any, Str.bytes_eq}
+use Rattle.pc_base.specs.Lists.{Text}
+use Rattle.pc_members.specs.{Edges.{edges_of, above_all}, Members.{Member, member_text}, Parts.or_no_members, MemberLists.members}
 use Rattle.pc_names.specs.{Faults.name_faults, declared.fault.NameFault.NameFault}
-use Rattle.pc_window.specs.Quoting.{quoted}
-use Rattle.pc_explain_names.specs.{Homes.last_of_first, Homes.place_at, Lists.name_separator, Lists.most, Lists.none_at_all, Lists.rest}
+use Rattle.pc_explain_window.specs.Quoting.{quoted}
+use Rattle.pc_explain_names.specs.{Homes.{last_of_first, place_at}, Lists.{name_separator, most, none_at_all, rest}}
 use Rattle.pc_tree.specs.Tree as t
 
 abbrev pub all_faults : t.File → List NameFault

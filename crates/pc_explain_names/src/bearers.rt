@@ -9,7 +9,7 @@ use crate::homes::{marks_at, params_of};
 use crate::lists::{first_other, is_other};
 use crate::marks::push_locals;
 use crate::spans::{field_spans, method_spans};
-use pc_caps::Span;
+use pc_base::Span;
 use pc_tree::{Entity, EntityKind, FieldDef, File, MethodDef};
 use std::alloc::{AllocError, Global};
 

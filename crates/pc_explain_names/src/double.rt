@@ -8,9 +8,9 @@ use crate::bearers::{Bearer, bearer_of, bearer_word, create_bearer, is_built_in}
 use crate::lists::first_other;
 use crate::spans::name_spans;
 use crate::unknown::{is_provided, push_node_line};
-use pc_caps::Span;
+use pc_base::Span;
+use pc_explain_window::{piece_of, push_bytes, push_piece, push_place, push_quoted};
 use pc_tree::{Entity, File, MethodDef};
-use pc_window::{piece_of, push_bytes, push_piece, push_place, push_quoted};
 use std::alloc::{AllocError, Global};
 
 // Appends the line about a built-in name.

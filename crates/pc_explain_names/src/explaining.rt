@@ -12,11 +12,11 @@ use crate::double::push_double_lines;
 use crate::homes::{entity_at, method_at, place_at};
 use crate::rows::{last_row, list_rows};
 use crate::unknown::push_unknown_lines;
-use pc_caps::{List, Span};
+use pc_base::{List, Span};
+use pc_explain_window::{piece_of, push_bytes, push_head, push_piece};
 use pc_members::Member;
 use pc_names::NameFault;
 use pc_tree::{Entity, EntityKind, File};
-use pc_window::{piece_of, push_bytes, push_head, push_piece};
 use std::alloc::{AllocError, Global};
 
 // Appends the line about a trait or an interface.

@@ -7,7 +7,7 @@ ghost use Rattle.pc_tree.specs.View.{entity_view, field_view, file_view, maybe_e
 
 use crate::marks::{Mark, push_expr, push_locals, push_seq};
 use crate::spans::{entity_spans, method_spans, param_spans};
-use pc_caps::{List, Span};
+use pc_base::{List, Span};
 use pc_tree::{Entity, Expr, FieldDef, File, MethodDef, Seq};
 use std::alloc::{AllocError, Global};
 

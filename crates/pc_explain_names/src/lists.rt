@@ -3,8 +3,8 @@ ghost use Rattle.std.specs.Prelude.{◌≡◌, ◌++◌, true, OnOk};
 ghost use Rattle.std.specs.List.{find, list_any};
 ghost use Rattle.pc_explain_names.specs.Lists as spec;
 
-use pc_caps::Span;
-use pc_window::{piece_of, push_bytes, push_number, push_quoted};
+use pc_base::Span;
+use pc_explain_window::{piece_of, push_bytes, push_number, push_quoted};
 use std::alloc::{AllocError, Global};
 
 /// How many names of a list are written at most.

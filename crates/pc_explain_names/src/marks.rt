@@ -4,7 +4,7 @@ ghost use Rattle.std.specs.Prelude.{◌≡◌, ◌++◌, ◌∷◌, [], OnOk};
 ghost use Rattle.pc_explain_names.specs.Marks as spec;
 ghost use Rattle.pc_tree.specs.View.{arm_view, arms_view, expr_view, exprs_view, item_view, items_view, other_view, seq_view, suffix_view, suffixes_view};
 
-use pc_caps::Span;
+use pc_base::Span;
 use pc_tree::{Arm, Expr, Item, Seq, Suffix};
 use std::alloc::AllocError;
 

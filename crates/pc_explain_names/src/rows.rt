@@ -9,11 +9,11 @@ ghost use Rattle.pc_names.specs.Faults.{IsNotMemory, Collected};
 ghost use Rattle.pc_tree.specs.View.{file_view};
 
 use crate::lists::{MOST, between, push_rest};
-use pc_caps::List;
+use pc_base::List;
+use pc_explain_window::{push_bytes, push_quoted};
 use pc_members::{Member, list_members};
 use pc_names::{NameFault, Names, collect};
 use pc_tree::File;
-use pc_window::{push_bytes, push_quoted};
 use std::alloc::{AllocError, Global};
 
 // The members of each entity of a file whose names were collected.

@@ -3,7 +3,7 @@ ghost use Rattle.std.specs.Prelude.{◌≡◌, map, IfOk};
 ghost use Rattle.pc_explain_names.specs.Lists as spec;
 ghost use Rattle.pc_tree.specs.View.{entity_view, field_view, method_view};
 
-use pc_caps::Span;
+use pc_base::Span;
 use pc_tree::{Entity, FieldDef, MethodDef, Name, ParamDef};
 use std::alloc::{AllocError, Global};
 

@@ -12,10 +12,10 @@ use crate::lists::{one_is_named, push_names};
 use crate::marks::{Mark, use_in};
 use crate::rows::{has_member, push_member_names};
 use crate::spans::{field_spans, method_spans, name_spans};
-use pc_caps::Span;
+use pc_base::Span;
+use pc_explain_window::{piece_of, push_bytes, push_piece, push_quoted};
 use pc_members::Member;
 use pc_tree::{Entity, EntityKind, File, MethodDef};
-use pc_window::{piece_of, push_bytes, push_piece, push_quoted};
 use std::alloc::{AllocError, Global};
 
 // Appends a dot and the method's name, if there is a method.

@@ -1,6 +1,6 @@
 //! The explanations of faults of names.
 use crate::cases::{Case, NAMES};
-use pc_caps::List;
+use pc_base::List;
 use pc_elab::elaborate;
 use pc_explain_names::explain_names;
 use pc_names::{NameFault, collect};

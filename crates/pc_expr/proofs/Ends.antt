@@ -1,14 +1,10 @@
 -- A token that is taken is not the end.
 use Rattle.std.proofs.Common.{◌≡◌, ◌≢◌, Some, true, subst}
-use Rattle.pc_token.specs.declared.kinds.Token.{Token}
+use Rattle.pc_token.specs.{declared.kinds.Token.Token, declared.words.Word.Word, declared.signs.Sign.Sign, Words.{is_sign, is_word, kind_is_sign, kind_is_word}}
 use Rattle.pc_token.specs.declared.kinds.TokenKind.TheVariants as k
-use Rattle.pc_token.specs.declared.words.Word.{Word}
-use Rattle.pc_token.specs.declared.signs.Sign.{Sign}
 use Rattle.pc_caps.specs.declared.capability.Cap.{Cap}
 use Rattle.pc_tree.specs.declared.kinds.Op.{Op}
-use Rattle.pc_token.specs.Words.{is_sign, is_word, kind_is_sign, kind_is_word}
-use Rattle.pc_grammar.specs.Spells.{op_of, kind_op, cap_of, kind_cap}
-use Rattle.pc_grammar.specs.Reading.{is_op, is_this}
+use Rattle.pc_grammar.specs.{Spells.{op_of, kind_op, cap_of, kind_cap}, Reading.{is_op, is_this}}
 
 pub is_sign_not_end : (s : Sign) (x : Token) → is_sign s x ≡ true → x.kind ≢ k.End
 unfolding is_sign

@@ -2,9 +2,8 @@
 use Rattle.std.proofs.Common.{◌≡◌, ℕ, ◌<◌, List, ◌∷◌, drop, length, Result, Ok, Err, refl, sym, ap, ap₂, ◌∙◌, arith, length-drop}
 use Rattle.pc_token.specs.declared.kinds.Token.{Token}
 use Rattle.pc_grammar.specs.Parsing.{ParseAnswer, read, refused, deep, IsOneAnswer}
-use Rattle.pc_expr.specs.declared.fault.ParseFault.{ParseFault}
+use Rattle.pc_expr.specs.{declared.fault.ParseFault.ParseFault, Answers.{Places, ReadsTo, RefusesTree, AnswersTree, Is}}
 use Rattle.pc_expr.specs.declared.fault.ParseFault.TheVariants as fault
-use Rattle.pc_expr.specs.Answers.{Places, ReadsTo, RefusesTree, AnswersTree, Is}
 
 -- what comes after a place determines the place
 same_place : (tokens : List Token) (i j : ℕ) → i < length tokens → j < length tokens → drop i tokens ≡ drop j tokens → i ≡ j

@@ -1,15 +1,10 @@
 -- The first and the last part of a list.
 use Rattle.std.proofs.Common.{◌≡◌, ◌-◌, List, [], ◌∷◌, length, map, suc, Some, ap, ap₂, ◌∙◌, arith, rules}
 use Rattle.std.specs.List.{slice_get}
-use Rattle.pc_caps.specs.declared.span.Span.{Span}
+use Rattle.pc_base.specs.declared.span.Span.{Span}
 use Rattle.pc_tree.specs.Tree as t
-use Rattle.pc_tree.specs.View.{expr_view, item_view, suffix_view}
-use Rattle.pc_tree.specs.declared.expression.Expr.{Expr}
-use Rattle.pc_tree.specs.declared.expression.Item.{Item}
-use Rattle.pc_tree.specs.declared.expression.Suffix.{Suffix}
-use Rattle.pc_grammar.specs.Spells.{no_span, span_from_to}
-use Rattle.pc_grammar.specs.Reading.{first_item, last_item, first_expr, last_expr, last_suffix}
-use Rattle.pc_tree.specs.Parts.{suffix_span, item_span}
+use Rattle.pc_tree.specs.{View.{expr_view, item_view, suffix_view}, declared.expression.Expr.Expr, declared.expression.Item.Item, declared.expression.Suffix.Suffix, Parts.{suffix_span, item_span}}
+use Rattle.pc_grammar.specs.{Spells.{no_span, span_from_to}, Reading.{first_item, last_item, first_expr, last_expr, last_suffix}}
 
 one_less : {X : Type 0} (y z : X) (zs : List X) (x : X) → Some x ≡ slice_get (y ∷ z ∷ zs) (length (y ∷ z ∷ zs) - 1) → Some x ≡ slice_get (z ∷ zs) (length (z ∷ zs) - 1)
 one_less y z zs x e =

@@ -1,10 +1,8 @@
 -- The repetitions of the rules, whatever they read.
 use Rattle.std.proofs.Common.{◌≡◌, ℕ, suc, ◌-◌, ◌<◌, ◌≤◌, List, [], ◌∷◌, ◌++◌, length, Option, Some, None, Ok, Err, refl, sym, ap, ◌∙◌, subst, ◌⊎◌, inl, inr, arith, append_assoc, append-nil}
 use Rattle.pc_token.specs.declared.kinds.Token.{Token}
-use Rattle.pc_expr.specs.declared.stop.ParseStop.{ParseStop}
+use Rattle.pc_expr.specs.{declared.stop.ParseStop.ParseStop, Gives.Stops, Onto.onto}
 use Rattle.pc_expr.specs.declared.stop.ParseStop.TheVariants as stop
-use Rattle.pc_expr.specs.Gives.{Stops}
-use Rattle.pc_expr.specs.Onto.{onto}
 use Rattle.pc_expr.proofs.Parts.{stops_first}
 use Rattle.pc_grammar.specs.Reading.{ReadingFault, ReadingOutcome, Parser, and_then, pure, many, many_step, all}
 

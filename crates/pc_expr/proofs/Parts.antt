@@ -1,24 +1,15 @@
 -- A rule with a repetition reads as its parts do.
 use Rattle.std.proofs.Common.{◌≡◌, ℕ, zero, suc, ◌-◌, ◌<◌, Bool, true, false, List, [], ◌∷◌, ◌++◌, Option, Some, None, Result, Ok, Err, refl, sym, ap, ◌∙◌, if◌then◌else◌, rules}
 use Rattle.pc_tree.specs.Tree as t
-use Rattle.pc_tree.specs.View.{seq_view}
-use Rattle.pc_tree.specs.declared.expression.Expr.{the_lemmas}
-use Rattle.pc_tree.specs.declared.expression.Seq.{Seq}
-use Rattle.pc_tree.specs.declared.kinds.Op.{Op}
-use Rattle.pc_token.specs.declared.kinds.Token.{Token}
+use Rattle.pc_tree.specs.{View.seq_view, declared.expression.Expr.the_lemmas, declared.expression.Seq.Seq, declared.kinds.Op.Op, Parts.{exprs_of, arms_of, seq_span}}
+use Rattle.pc_token.specs.{declared.kinds.Token.Token, Words.{is_sign, is_word}, declared.words.Word.Word}
 use Rattle.pc_token.specs.declared.words.Word.TheVariants as w
 use Rattle.pc_token.specs.declared.signs.Sign.TheVariants as s
-use Rattle.pc_token.specs.Words.{is_sign, is_word}
-use Rattle.pc_grammar.specs.Spells.{span_from_to, op_of}
-use Rattle.pc_grammar.specs.Reading.{ReadingOutcome, Parser, Inner, and_then, pure, ◌>>=◌, ◌>>◌, peek, deeper, take_if, all, next_item, after, at, is_op, begins_suffix, item, expr_in, seq_of, seq_in, seq_with, arm, other, if_, term, infix_of, infix_by, infix_in, infix_with, atom, suffix, postfix, chain_of, arg_list, assigns, becomes, expr_by, expr_with, too_deep, inner, maybe_cap, while_, recover_}
+use Rattle.pc_grammar.specs.{Spells.{span_from_to, op_of}, Reading.{ReadingOutcome, Parser, Inner, and_then, pure, ◌>>=◌, ◌>>◌, peek, deeper, take_if, all, next_item, after, at, is_op, begins_suffix, item, expr_in, seq_of, seq_in, seq_with, arm, other, if_, term, infix_of, infix_by, infix_in, infix_with, atom, suffix, postfix, chain_of, arg_list, assigns, becomes, expr_by, expr_with, too_deep, inner, maybe_cap, while_, recover_}}
 use Rattle.pc_grammar.proofs.Levels.{no_deeper, one_deeper, inner_seq}
-use Rattle.pc_caps.specs.declared.span.Span.{Span}
-use Rattle.pc_token.specs.declared.words.Word.{Word}
-use Rattle.pc_expr.specs.Onto.{onto, seq_parts, more_items, some_args, arg_list_by, arg_list_parts, chain_terms, chain_by, infix_parts, postfix_parts, arms, first_arm, if_parts}
-use Rattle.pc_expr.specs.Gives.{Stops, GivesReading}
-use Rattle.pc_expr.specs.declared.stop.ParseStop.{ParseStop}
+use Rattle.pc_base.specs.declared.span.Span.{Span}
+use Rattle.pc_expr.specs.{Onto.{onto, seq_parts, more_items, some_args, arg_list_by, arg_list_parts, chain_terms, chain_by, infix_parts, postfix_parts, arms, first_arm, if_parts}, Gives.{Stops, GivesReading}, declared.stop.ParseStop.ParseStop}
 use Rattle.pc_expr.specs.declared.stop.ParseStop.TheVariants as stop
-use Rattle.pc_tree.specs.Parts.{exprs_of, arms_of, seq_span}
 
 -- the same is read if the same is read first, and then the same after whatever that is
 pub same_behind : {A B : Type 0} (o : ReadingOutcome A) (f g : A → Parser B) → ((x : A) (rest : List Token) → f x rest ≡ g x rest) → and_then o f ≡ and_then o g

@@ -1,14 +1,9 @@
 -- From reading to the promises of the public calls.
 use Rattle.std.proofs.Common.{◌≡◌, ℕ, zero, suc, ◌<◌, List, [], ◌∷◌, drop, length, Err, sym, ap, ◌∙◌, subst, arith}
 use Rattle.pc_token.specs.declared.kinds.Token.{Token}
-use Rattle.pc_grammar.specs.Reading.{ReadingOutcome, Parser, unexpected}
-use Rattle.pc_grammar.specs.Parsing.{IsRefused}
-use Rattle.pc_grammar.specs.Laws.{RefusesRight, DeepRight}
-use Rattle.pc_expr.specs.declared.stop.ParseStop.{ParseStop}
+use Rattle.pc_grammar.specs.{Reading.{ReadingOutcome, Parser, unexpected}, Parsing.IsRefused, Laws.{RefusesRight, DeepRight}}
+use Rattle.pc_expr.specs.{declared.stop.ParseStop.ParseStop, declared.fault.ParseFault.ParseFault, Gives.{EndsWithEnd, StandsAtToken, Stops}, Answers.{RefusesTree, StopsAtToken, NamesByte}}
 use Rattle.pc_expr.specs.declared.stop.ParseStop.TheVariants as stop
-use Rattle.pc_expr.specs.declared.fault.ParseFault.{ParseFault}
-use Rattle.pc_expr.specs.Gives.{EndsWithEnd, StandsAtToken, Stops}
-use Rattle.pc_expr.specs.Answers.{RefusesTree, StopsAtToken, NamesByte}
 
 ends_from : (tokens : List Token) (at : ℕ) → EndsWithEnd tokens → at < length tokens → EndsWithEnd (drop at tokens)
 ends_from tokens zero ends within = ends

@@ -1,7 +1,7 @@
 -- What the parser returns.
 use Rattle.std.specs.Prelude.{◌≡◌, ◌≢◌, ℕ, ◌<◌, List, ◌∷◌, drop, length, Result, Ok, Err}
 use Rattle.pc_token.specs.declared.kinds.Token.{Token}
-use Rattle.pc_grammar.specs.{FileAnswers.IsTooDeep, Parsing.IsRead, Parsing.IsRefused}
+use Rattle.pc_grammar.specs.{FileAnswers.IsTooDeep, Parsing.{IsRead, IsRefused}}
 use Rattle.pc_expr.specs.{declared.stop.ParseStop.ParseStop, declared.fault.ParseFault.ParseFault}
 use Rattle.pc_expr.specs.declared.stop.ParseStop.TheVariants as stop
 use Rattle.pc_expr.specs.declared.fault.ParseFault.TheVariants as fault

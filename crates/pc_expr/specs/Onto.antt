@@ -1,9 +1,9 @@
 -- The repetitions of the grammar, and the rules around them.
 use Rattle.std.specs.Prelude.{ℕ, List, [], ◌∷◌, ◌++◌, Option, Some, None, if◌then◌else◌}
-use Rattle.pc_caps.specs.declared.span.Span.{Span}
-use Rattle.pc_token.specs.{declared.kinds.Token.Token, declared.kinds.TokenKind.TokenKind, Words.is_sign, Words.is_word}
-use Rattle.pc_tree.specs.{declared.kinds.Op.Op, Parts.exprs_of, Parts.arms_of, Parts.arm_span}
-use Rattle.pc_grammar.specs.{Spells.span_from_to, Spells.op_of, Reading.Parser, Reading.Inner, Reading.◌>>=◌, Reading.pure, Reading.name, Reading.type_name, Reading.refuse, Reading.leaf, Reading.peek, Reading.deeper, Reading.take_if, Reading.all, Reading.next_item, Reading.after, Reading.at, Reading.is_op, Reading.begins_suffix, Reading.item, Reading.expr_in, Reading.seq_of, Reading.arm, Reading.other, Reading.term, Reading.infix_of, Reading.atom, Reading.suffix, Reading.chain_of}
+use Rattle.pc_base.specs.declared.span.Span.{Span}
+use Rattle.pc_token.specs.{declared.kinds.Token.Token, declared.kinds.TokenKind.TokenKind, Words.{is_sign, is_word}}
+use Rattle.pc_tree.specs.{declared.kinds.Op.Op, Parts.{exprs_of, arms_of, arm_span}}
+use Rattle.pc_grammar.specs.{Spells.{span_from_to, op_of}, Reading.{Parser, Inner, ◌>>=◌, pure, name, type_name, refuse, leaf, peek, deeper, take_if, all, next_item, after, at, is_op, begins_suffix, item, expr_in, seq_of, arm, other, term, infix_of, atom, suffix, chain_of}}
 use Rattle.pc_tree.specs.Tree as t
 use Rattle.pc_token.specs.declared.kinds.TokenKind.TheVariants as k
 use Rattle.pc_token.specs.declared.words.Word.TheVariants as w

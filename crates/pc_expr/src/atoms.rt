@@ -7,7 +7,8 @@ ghost use Rattle.pc_expr.specs.Onto as onto;
 
 use crate::stop::ParseStop;
 use crate::tokens::{look, take_sign, take_word};
-use pc_caps::{Cap, SharedList, ShortBytes};
+use pc_base::{SharedList, ShortBytes};
+use pc_caps::Cap;
 use pc_grammar::cap_of;
 use pc_token::{Sign, Token, TokenKind, Word, is_sign};
 use pc_tree::{Expr, Name, TypeRef, join};

@@ -1,6 +1,6 @@
 //! One function for each rule of the grammar. `left` is the number of levels that may still be opened.
 ghost use Rattle.std.specs.Prelude.{◌≡◌, ◌≤◌, [], ◌∷◌, drop, map, IfOk, IfErr};
-ghost use Rattle.pc_caps.specs.declared.span.Span.{Span as Place};
+ghost use Rattle.pc_base.specs.declared.span.Span.{Span as Place};
 ghost use Rattle.pc_token.specs.declared.signs.Sign.TheVariants.{Assign};
 ghost use Rattle.pc_token.specs.Words as spec;
 ghost use Rattle.pc_tree.specs.Tree as t;
@@ -18,7 +18,7 @@ use crate::stop::ParseStop;
 use crate::tokens::{
     after_comma, after_op, at_elseif, at_suffix, look, next_item, take_sign, take_word,
 };
-use pc_caps::{List, Span};
+use pc_base::{List, Span};
 use pc_grammar::op_of;
 use pc_token::{Sign, Token, TokenKind, Word, is_sign, is_word};
 use pc_tree::{Arm, Expr, Item, Op, Seq, Suffix, join, span_of};

@@ -7,7 +7,7 @@ ghost use Rattle.pc_grammar.specs.Spells as spells;
 ghost use Rattle.pc_grammar.specs.Reading as reading;
 ghost use Rattle.pc_expr.specs.Onto as onto;
 
-use pc_caps::Span;
+use pc_base::Span;
 use pc_tree::{Arm, Expr, Item, Suffix, join, span_of};
 
 const NOWHERE: Span = Span { start: 0, end: 0 };

@@ -1,21 +1,13 @@
 -- Which lines end in some bytes: counts, slots and nodes, in the numbers that the counts state.
 use Rattle.std.specs.Prelude.{◌≡◌, ℕ, suc, ◌+◌, ◌<◌, ◌≤◌, Bool, true, false, cond, ◌&&◌, ◌==◌, nat_le, List, [], ◌∷◌, ◌++◌, length, map, Option, Some, None, option_map, Result, Ok, Err, refl}
-use Rattle.std.proofs.Common.{subst, arith}
-use Rattle.std.proofs.lemmas.Option.{same_Some}
-use Rattle.std.proofs.lemmas.Bool.Decides.{nat_tests}
+use Rattle.std.proofs.{Common.{subst, arith}, lemmas.Option.same_Some, lemmas.Bool.Decides.nat_tests}
 use Rattle.pc_ann.specs.declared.annotation.Note.{Note}
 use Rattle.pc_valid.specs.Words.{Slots}
-use Rattle.pc_lists.proofs.Options.{none_some}
-use Rattle.pc_deriv.specs.declared.version.Version.{Version}
-use Rattle.pc_deriv.specs.declared.line.Line.{Line}
+use Rattle.pc_base.proofs.Options.{none_some}
+use Rattle.pc_deriv.specs.{declared.version.Version.Version, declared.line.Line.Line, declared.line.LineFault.LineFault, Parts.{derivation_slot_limit, derivation_node_limit}, Reading.{head_at, read_slot, note_at}, Lines.{Taken, nothing_taken, longest_line, slot_line_in, node_in, line_in, within_limits, checked, line_meaning, counts_with, behind, answered, with_line_byte, took_at, took, with_first_line, fed, line_of_slot}}
 use Rattle.pc_deriv.specs.declared.line.Line.TheVariants as line
-use Rattle.pc_deriv.specs.declared.line.LineFault.{LineFault}
 use Rattle.pc_deriv.specs.declared.line.LineFault.TheVariants as fault
-use Rattle.pc_deriv.specs.Parts.{derivation_slot_limit, derivation_node_limit}
-use Rattle.pc_deriv.specs.Reading.{head_at, read_slot, note_at}
-use Rattle.pc_deriv.specs.Lines.{Taken, nothing_taken, longest_line, slot_line_in, node_in, line_in, within_limits, checked, line_meaning, counts_with, behind, answered, with_line_byte, took_at, took, with_first_line, fed, line_of_slot}
-use Rattle.pc_feed.specs.Lines.{lines_in}
-use Rattle.pc_feed.specs.Steps.{LineFits, Counted, MayFollow}
+use Rattle.pc_feed.specs.{Lines.lines_in, Steps.{LineFits, Counted, MayFollow}}
 
 -- ---- one line
 

@@ -1,25 +1,17 @@
 -- The end of all lines of an annotation.
 use Rattle.std.specs.Prelude.{◌≡◌, ℕ, suc, List, [], ◌∷◌, ◌++◌, length, map, Some, None, slice_get, refl}
-use Rattle.std.proofs.Common.{ap, sym, subst, ◌∙◌, arith, append-nil, length-append}
-use Rattle.std.proofs.lemmas.List.{length-map}
+use Rattle.std.proofs.{Common.{ap, sym, subst, ◌∙◌, arith, append-nil, length-append}, lemmas.List.length-map}
 use Rattle.pc_caps.specs.declared.capability.Cap.{Cap}
-use Rattle.pc_lists.proofs.Gets.{get_below}
-use Rattle.pc_core.specs.CoreData.{CoreData}
-use Rattle.pc_core.specs.Formed.{Formed}
-use Rattle.pc_ann.specs.declared.annotation.Note.{Note}
-use Rattle.pc_ann.specs.declared.annotation.Ann.{Ann}
+use Rattle.pc_base.proofs.Gets.{get_below}
+use Rattle.pc_core.specs.{CoreData.CoreData, Formed.Formed}
+use Rattle.pc_ann.specs.{declared.annotation.Note.Note, declared.annotation.Ann.Ann}
 use Rattle.pc_sub.specs.Declarations.{DeclOk}
 use Rattle.pc_valid.specs.Valid.{Valid}
-use Rattle.pc_deriv.specs.declared.version.Version.{Version}
-use Rattle.pc_deriv.specs.declared.line.Line.{Line}
+use Rattle.pc_deriv.specs.{declared.version.Version.Version, declared.line.Line.Line, Lines.{line_of_slot, lines_of}}
 use Rattle.pc_deriv.specs.declared.line.Line.TheVariants as line
-use Rattle.pc_deriv.specs.Lines.{line_of_slot, lines_of}
-use Rattle.pc_judge.specs.declared.faults.JudgeFault.{JudgeFault}
-use Rattle.pc_judge.specs.Faults.{FirstAnnotationFault}
+use Rattle.pc_judge.specs.{declared.faults.JudgeFault.JudgeFault, Faults.FirstAnnotationFault}
 use Rattle.pc_judge.proofs.Exact.{before_all}
-use Rattle.pc_feed.specs.Waiting.{BeginsAnnotation}
-use Rattle.pc_feed.specs.declared.judging.Judging.{Judging}
-use Rattle.pc_feed.specs.Streams.{StandsForLines, no_line, after_head, NothingWrong, JudgedBy, JudgedSoFar}
+use Rattle.pc_feed.specs.{Waiting.BeginsAnnotation, declared.judging.Judging.Judging, Streams.{StandsForLines, no_line, after_head, NothingWrong, JudgedBy, JudgedSoFar}}
 use Rattle.pc_feed.proofs.Beginnings.{no_lines, head_of, notes_begin}
 
 -- Among an annotation's lines, the slots and the nodes are all of them.

@@ -3,21 +3,11 @@ use Rattle.std.specs.Prelude.{◌≡◌, ℕ, List, [], ◌++◌, Option, Ok, Er
 use Rattle.std.proofs.Common.{ap, sym, subst, ◌∙◌, arith}
 use Rattle.pc_core.specs.CoreData.{CoreData}
 use Rattle.pc_ann.specs.declared.annotation.Ann.{Ann}
-use Rattle.pc_feed.specs.Waiting.{start}
-use Rattle.pc_deriv.specs.declared.version.Version.{Version}
-use Rattle.pc_deriv.specs.declared.line.LineFault.{LineFault}
-use Rattle.pc_deriv.specs.Text.{IsText, IsFault}
-use Rattle.pc_deriv.specs.Laws.{as_read, IsRead}
-use Rattle.pc_deriv.specs.Lines.{Taken, nothing_taken, fed, ended_so, lines_of}
+use Rattle.pc_feed.specs.{Waiting.start, declared.reading.Reading.Reading, Lines.lines_in, Asked.Grew, Feeding.{FeedAnswer, Feeds, EndsSo}, Streams.{no_line, NothingWrong, JudgedSoFar, ReadSo}, Steps.{Went, PieceTaken, JudgedSo, nothing_judged, nothing_read}}
+use Rattle.pc_deriv.specs.{declared.version.Version.Version, declared.line.LineFault.LineFault, Text.{IsText, IsFault}, Laws.{as_read, IsRead}, Lines.{Taken, nothing_taken, fed, ended_so, lines_of}}
 use Rattle.pc_deriv.proofs.Whole.{read_whole}
 use Rattle.pc_referee.specs.Asked.{Pairs}
 use Rattle.pc_feed.specs.declared.fault.StreamFault.TheVariants as fault
-use Rattle.pc_feed.specs.declared.reading.Reading.{Reading}
-use Rattle.pc_feed.specs.Lines.{lines_in}
-use Rattle.pc_feed.specs.Asked.{Grew}
-use Rattle.pc_feed.specs.Feeding.{FeedAnswer, Feeds, EndsSo}
-use Rattle.pc_feed.specs.Streams.{no_line, NothingWrong, JudgedSoFar, ReadSo}
-use Rattle.pc_feed.specs.Steps.{Went, PieceTaken, JudgedSo, nothing_judged, nothing_read}
 use Rattle.pc_feed.proofs.Told.{grew_of, grew_part_of}
 
 -- ---- the start

@@ -1,24 +1,13 @@
 -- A file that is fed part by part.
 use Rattle.std.specs.Prelude.{◌≡◌, ℕ, zero, suc, ◌+◌, ◌-◌, ◌*◌, ◌<◌, ◌≤◌, Bool, true, false, nat_eq, min, List, [], ◌∷◌, ◌++◌, length, take, drop, Option, Some, None, IfSome, Result, Ok, Err, refl}
-use Rattle.std.proofs.Common.{inl, inr, ap, sym, subst, ◌∙◌, arith, append_assoc, append-nil, length-append, length-drop}
-use Rattle.std.proofs.lemmas.Bool.{eqb-true, eq-eqb, cases_lt, true≢false, both_ways}
-use Rattle.std.proofs.lemmas.List.{length-take}
-use Rattle.std.proofs.Math.Seq.{take-add}
+use Rattle.std.proofs.{Common.{inl, inr, ap, sym, subst, ◌∙◌, arith, append_assoc, append-nil, length-append, length-drop}, lemmas.Bool.{eqb-true, eq-eqb, cases_lt, true≢false, both_ways}, lemmas.List.length-take, Math.Seq.take-add}
 use Rattle.pc_core.specs.CoreData.{CoreData}
-use Rattle.pc_deriv.specs.Text.{derivation_limit}
-use Rattle.pc_deriv.specs.declared.line.LineFault.{LineFault}
+use Rattle.pc_deriv.specs.{Text.derivation_limit, declared.line.LineFault.LineFault}
 use Rattle.pc_judge.specs.declared.faults.JudgeFault.{JudgeFault}
 use Rattle.pc_referee.specs.Asked.{Pairs}
-use Rattle.pc_feed.specs.declared.fault.StreamFault.{StreamFault}
+use Rattle.pc_feed.specs.{declared.fault.StreamFault.StreamFault, declared.parts.DerivationFault.DerivationFault, Lines.lines_in, Asked.{IsAsked, Grew}, Laws.OneIsAsked, Feeding.{Feeds, EndsSo}, Streams.{StreamData, IsFed}, Parts.{part_size, AsksNodes, FileJudged, PartsRead, AllRead, PartFed, IsPartAt, Size, PartTaken, PartsEnd}}
 use Rattle.pc_feed.specs.declared.fault.StreamFault.TheVariants as stream
-use Rattle.pc_feed.specs.declared.parts.DerivationFault.{DerivationFault}
 use Rattle.pc_feed.specs.declared.parts.DerivationFault.TheVariants as fault
-use Rattle.pc_feed.specs.Lines.{lines_in}
-use Rattle.pc_feed.specs.Asked.{IsAsked, Grew}
-use Rattle.pc_feed.specs.Laws.{OneIsAsked}
-use Rattle.pc_feed.specs.Feeding.{Feeds, EndsSo}
-use Rattle.pc_feed.specs.Streams.{StreamData, IsFed}
-use Rattle.pc_feed.specs.Parts.{part_size, AsksNodes, FileJudged, PartsRead, AllRead, PartFed, IsPartAt, Size, PartTaken, PartsEnd}
 
 -- ---- what the referee is asked about
 

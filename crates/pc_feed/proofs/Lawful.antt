@@ -1,34 +1,18 @@
 -- The laws of what is asked about and of how bytes end.
 use Rattle.std.specs.Prelude.{◌≡◌, ℕ, ◌<◌, ◌≤◌, List, [], ◌∷◌, ◌++◌, length, map, take, Ok, Err, refl}
-use Rattle.std.proofs.Common.{inl, inr, ap, ap₂, sym, append-nil, subst, ◌∙◌, arith}
-use Rattle.std.proofs.lemmas.Bool.{cases_lt}
-use Rattle.std.proofs.lemmas.Option.{same_Some}
-use Rattle.pc_core.specs.CoreData.{CoreData}
-use Rattle.pc_core.specs.Formed.{Formed}
-use Rattle.pc_ann.specs.declared.annotation.Note.{Note}
-use Rattle.pc_ann.specs.declared.annotation.Ann.{Ann}
-use Rattle.pc_valid.specs.Words.{Slots}
-use Rattle.pc_valid.specs.Valid.{MeetsRule, Valid}
+use Rattle.std.proofs.{Common.{inl, inr, ap, ap₂, sym, append-nil, subst, ◌∙◌, arith}, lemmas.Bool.cases_lt, lemmas.Option.same_Some}
+use Rattle.pc_core.specs.{CoreData.CoreData, Formed.Formed}
+use Rattle.pc_ann.specs.{declared.annotation.Note.Note, declared.annotation.Ann.Ann}
+use Rattle.pc_valid.specs.{Words.Slots, Valid.{MeetsRule, Valid}}
 use Rattle.pc_referee.specs.Asked.{Pairs}
-use Rattle.pc_deriv.specs.declared.version.Version.{Version}
-use Rattle.pc_deriv.specs.declared.line.Line.{Line}
+use Rattle.pc_deriv.specs.{declared.version.Version.Version, declared.line.Line.Line, declared.line.LineFault.LineFault, Lines.lines_of, Text.IsText, Laws.as_read}
 use Rattle.pc_deriv.specs.declared.line.Line.TheVariants as line
-use Rattle.pc_deriv.specs.declared.line.LineFault.{LineFault}
 use Rattle.pc_deriv.specs.declared.line.LineFault.TheVariants as line_fault
-use Rattle.pc_deriv.specs.Lines.{lines_of}
-use Rattle.pc_deriv.specs.Text.{IsText}
-use Rattle.pc_deriv.specs.Laws.{as_read}
-use Rattle.pc_deriv.proofs.Outcome.{one_annotation, one_fault, no_fault}
-use Rattle.pc_deriv.proofs.Whole.{texts_are_taken}
-use Rattle.pc_judge.specs.declared.faults.JudgeFault.{JudgeFault}
-use Rattle.pc_judge.specs.Faults.{FirstAnnotationFault, KeepsType}
-use Rattle.pc_judge.specs.AtNodes.{NodePasses}
+use Rattle.pc_deriv.proofs.{Outcome.{one_annotation, one_fault, no_fault}, Whole.texts_are_taken}
+use Rattle.pc_judge.specs.{declared.faults.JudgeFault.JudgeFault, Faults.{FirstAnnotationFault, KeepsType}, AtNodes.NodePasses}
 use Rattle.pc_judge.proofs.Exact.{not_valid, one_first}
 use Rattle.pc_feed.specs.declared.fault.StreamFault.TheVariants as fault
-use Rattle.pc_feed.specs.Lines.{slots_in, notes_in, so_far}
-use Rattle.pc_feed.specs.Asked.{IsFoundRight, IsAsked}
-use Rattle.pc_feed.specs.Numbered.{numbered_notes}
-use Rattle.pc_feed.specs.Laws.{OneIsAsked, OneEnd, ValidAsksAll}
+use Rattle.pc_feed.specs.{Lines.{slots_in, notes_in, so_far}, Asked.{IsFoundRight, IsAsked}, Numbered.numbered_notes, Laws.{OneIsAsked, OneEnd, ValidAsksAll}}
 use Rattle.pc_feed.proofs.Sayings.{notes_of_nodes, notes_of_slots, slots_app, numbered_length, take_all}
 
 not_more : (core : CoreData) (ls : List Line) (a b : Pairs) (x : IsAsked core ls a) (y : IsAsked core ls b) → x.count < y.count → ⊥

@@ -1,38 +1,19 @@
 -- The lines of nodes.
 use Rattle.std.specs.Prelude.{◌≡◌, ◌↔◌, ℕ, ◌+◌, ◌<◌, ◌≤◌, true, false, List, [], ◌∷◌, ◌++◌, length, map, Option, Some, None, Result, Ok, Err, OnOk, OnErr, slice_get, refl}
-use Rattle.std.proofs.Common.{inl, inr, ap, sym, subst, ◌∙◌, arith, append-nil, append_assoc}
-use Rattle.std.proofs.lemmas.Bool.{cases_lt}
-use Rattle.std.proofs.lemmas.Option.{same_Some}
+use Rattle.std.proofs.{Common.{inl, inr, ap, sym, subst, ◌∙◌, arith, append-nil, append_assoc}, lemmas.Bool.cases_lt, lemmas.Option.same_Some}
 use Rattle.pc_caps.specs.declared.capability.Cap.{Cap}
-use Rattle.pc_lists.proofs.Gets.{get_below, get_behind}
-use Rattle.pc_core.specs.declared.nodes.Node.{Node}
-use Rattle.pc_core.specs.CoreData.{CoreData}
-use Rattle.pc_core.specs.Formed.{Formed}
-use Rattle.pc_ann.specs.declared.annotation.Note.{Note}
-use Rattle.pc_ann.specs.declared.annotation.Ann.{Ann}
+use Rattle.pc_base.proofs.Gets.{get_below, get_behind}
+use Rattle.pc_core.specs.{declared.nodes.Node.Node, CoreData.CoreData, Formed.Formed}
+use Rattle.pc_ann.specs.{declared.annotation.Note.Note, declared.annotation.Ann.Ann}
 use Rattle.pc_sub.specs.Declarations.{DeclOk}
-use Rattle.pc_valid.specs.Valid.{MeetsRule}
-use Rattle.pc_valid.specs.NoRule.{Holds}
-use Rattle.pc_deriv.specs.declared.version.Version.{Version}
-use Rattle.pc_deriv.specs.declared.line.Line.{Line}
+use Rattle.pc_valid.specs.{Valid.MeetsRule, NoRule.Holds}
+use Rattle.pc_deriv.specs.{declared.version.Version.Version, declared.line.Line.Line, Lines.{line_of_slot, lines_of}}
 use Rattle.pc_deriv.specs.declared.line.Line.TheVariants as line
-use Rattle.pc_deriv.specs.Lines.{line_of_slot, lines_of}
 use Rattle.pc_judge.specs.declared.faults.JudgeFault.TheVariants as fault
-use Rattle.pc_judge.specs.Computed.{unset_of}
-use Rattle.pc_judge.specs.Faults.{NothingWrongBefore, FirstAnnotationFault}
-use Rattle.pc_judge.specs.AtNodes.{FailsAt, NodePasses}
+use Rattle.pc_judge.specs.{Computed.unset_of, Faults.{NothingWrongBefore, FirstAnnotationFault}, AtNodes.{FailsAt, NodePasses}}
 use Rattle.pc_judge.proofs.AtNode.{passes, fails_set}
-use Rattle.pc_feed.specs.Waiting.{BeginsAnnotation}
-use Rattle.pc_feed.proofs.Noted.{waiting_tells}
-use Rattle.pc_feed.specs.declared.judging.Judging.{Judging}
-use Rattle.pc_feed.specs.Lines.{notes_in, so_far}
-use Rattle.pc_feed.specs.Asked.{OpeningFits, IsFoundRight}
-use Rattle.pc_feed.specs.Streams.{after_head, NothingWrong, FoundRightUpTo, Wrong, JudgedBy, JudgedSoFar}
-use Rattle.pc_feed.specs.Steps.{last_of, waits_after, OneFound}
-use Rattle.pc_feed.proofs.Sayings.{map_push, count_push, notes_behind, slots_behind}
-use Rattle.pc_feed.proofs.Beginnings.{head_of, notes_begin}
-use Rattle.pc_feed.proofs.Places.{NodeAt}
-use Rattle.pc_feed.proofs.Waitings.{behind, back_is}
+use Rattle.pc_feed.specs.{Waiting.BeginsAnnotation, declared.judging.Judging.Judging, Lines.{notes_in, so_far}, Asked.{OpeningFits, IsFoundRight}, Streams.{after_head, NothingWrong, FoundRightUpTo, Wrong, JudgedBy, JudgedSoFar}, Steps.{last_of, waits_after, OneFound}}
+use Rattle.pc_feed.proofs.{Noted.waiting_tells, Sayings.{map_push, count_push, notes_behind, slots_behind}, Beginnings.{head_of, notes_begin}, Places.NodeAt, Waitings.{behind, back_is}}
 
 -- ---- the content of the lines of slots and of nodes
 

@@ -1,14 +1,11 @@
 -- The notes of the nodes without a parent so far.
 use Rattle.std.specs.Prelude.{◌≡◌, ◌↔◌, ℕ, zero, suc, List, [], ◌∷◌, ◌++◌, length, Option, Some, slice_get, refl}
-use Rattle.std.proofs.Common.{ap, sym, subst, ◌∙◌}
-use Rattle.std.proofs.lemmas.Option.{same_Some, none-some}
+use Rattle.std.proofs.{Common.{ap, sym, subst, ◌∙◌}, lemmas.Option.{same_Some, none-some}}
 use Rattle.pc_ann.specs.declared.annotation.Note.{Note}
-use Rattle.pc_lists.specs.Lists.{◌>>=◌}
-use Rattle.pc_lists.proofs.Options.{bind_some, bind_is}
+use Rattle.pc_base.specs.Lists.{◌>>=◌}
+use Rattle.pc_base.proofs.Options.{bind_some, bind_is}
 use Rattle.pc_rules.specs.Parts.{notes_of}
-use Rattle.pc_valid.specs.Words.{Slots}
-use Rattle.pc_valid.specs.Valid.{MeetsRule}
-use Rattle.pc_valid.specs.NoRule.{Holds}
+use Rattle.pc_valid.specs.{Words.Slots, Valid.MeetsRule, NoRule.Holds}
 use Rattle.pc_rules.proofs.Derivations.{holds_meets}
 use Rattle.pc_feed.specs.WaitingLaws.{WaitingTells}
 use Rattle.pc_feed.proofs.PostOrder.{children_wait_last}

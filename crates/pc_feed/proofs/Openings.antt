@@ -1,26 +1,16 @@
 -- The first line and the lines of slots.
 use Rattle.std.specs.Prelude.{◌≡◌, ℕ, ◌<◌, List, [], ◌∷◌, ◌++◌, length, map, Some, None, Result, Ok, Err, OnOk, slice_get, refl}
-use Rattle.std.proofs.Common.{inl, inr, ap, sym, subst, ◌∙◌, arith, append-nil, length-append}
-use Rattle.std.proofs.lemmas.Bool.{cases_lt}
-use Rattle.std.proofs.lemmas.Option.{same_Some}
+use Rattle.std.proofs.{Common.{inl, inr, ap, sym, subst, ◌∙◌, arith, append-nil, length-append}, lemmas.Bool.cases_lt, lemmas.Option.same_Some}
 use Rattle.pc_caps.specs.declared.capability.Cap.{Cap}
-use Rattle.pc_lists.proofs.Gets.{get_within, get_front, get_behind}
-use Rattle.pc_core.specs.declared.nodes.Slot.{Slot}
-use Rattle.pc_core.specs.CoreData.{CoreData}
-use Rattle.pc_ann.specs.declared.annotation.Note.{Note}
-use Rattle.pc_ann.specs.declared.annotation.Ann.{Ann}
-use Rattle.pc_deriv.specs.declared.line.Line.{Line}
+use Rattle.pc_base.proofs.Gets.{get_within, get_front, get_behind}
+use Rattle.pc_core.specs.{declared.nodes.Slot.Slot, CoreData.CoreData}
+use Rattle.pc_ann.specs.{declared.annotation.Note.Note, declared.annotation.Ann.Ann}
+use Rattle.pc_deriv.specs.{declared.line.Line.Line, Lines.line_of_slot}
 use Rattle.pc_deriv.specs.declared.line.Line.TheVariants as line
-use Rattle.pc_deriv.specs.Lines.{line_of_slot}
 use Rattle.pc_judge.specs.declared.faults.JudgeFault.TheVariants as fault
 use Rattle.pc_judge.specs.Faults.{KeepsType, HasShape}
-use Rattle.pc_feed.specs.declared.judging.Judging.{Judging}
-use Rattle.pc_feed.specs.Lines.{slots_in, so_far}
-use Rattle.pc_feed.specs.Streams.{after_head, NothingWrong, FoundRightUpTo, Wrong, JudgedBy, JudgedSoFar}
-use Rattle.pc_feed.specs.Steps.{MayFollow, MayHave, SameFound}
-use Rattle.pc_feed.proofs.Sayings.{map_push, count_push, slots_app}
-use Rattle.pc_feed.proofs.Beginnings.{head_of, slots_begin}
-use Rattle.pc_feed.proofs.Places.{head_at, SlotAt}
+use Rattle.pc_feed.specs.{declared.judging.Judging.Judging, Lines.{slots_in, so_far}, Streams.{after_head, NothingWrong, FoundRightUpTo, Wrong, JudgedBy, JudgedSoFar}, Steps.{MayFollow, MayHave, SameFound}}
+use Rattle.pc_feed.proofs.{Sayings.{map_push, count_push, slots_app}, Beginnings.{head_of, slots_begin}, Places.{head_at, SlotAt}}
 
 none_found : (core : CoreData) (ls : List Line) (right : ℕ) → right ≡ 0 → FoundRightUpTo core ls right
 none_found core ls right e = record { few = omega (arith, e); each = λ more k l. absurd (omega (arith, l, e)) }

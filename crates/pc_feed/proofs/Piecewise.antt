@@ -1,27 +1,14 @@
 -- A piece that is processed line by line.
 use Rattle.std.specs.Prelude.{◌≡◌, ℕ, zero, suc, ◌+◌, ◌-◌, ◌≤◌, List, [], ◌∷◌, ◌++◌, length, take, drop, slice_range, Option, Some, None, Result, Ok, Err, refl}
-use Rattle.std.proofs.Common.{ap, sym, subst, ◌∙◌, arith, append-nil, append_assoc}
-use Rattle.std.proofs.lemmas.List.{take-append-drop}
-use Rattle.std.proofs.lemmas.Option.{same_Some}
-use Rattle.pc_lists.proofs.Options.{none_some}
-use Rattle.std.proofs.Math.Seq.{take-add}
+use Rattle.std.proofs.{Common.{ap, sym, subst, ◌∙◌, arith, append-nil, append_assoc}, lemmas.List.take-append-drop, lemmas.Option.same_Some, Math.Seq.take-add}
+use Rattle.pc_base.proofs.Options.{none_some}
 use Rattle.pc_core.specs.CoreData.{CoreData}
-use Rattle.pc_deriv.specs.declared.line.Line.{Line}
-use Rattle.pc_deriv.specs.declared.line.LineFault.{LineFault}
-use Rattle.pc_deriv.specs.Lines.{Taken, nothing_taken, fed}
-use Rattle.pc_deriv.specs.Pieces.{IsNext}
+use Rattle.pc_deriv.specs.{declared.line.Line.Line, declared.line.LineFault.LineFault, Lines.{Taken, nothing_taken, fed}, Pieces.IsNext}
 use Rattle.pc_deriv.proofs.Feeding.{fed_both, fed_stays}
 use Rattle.pc_referee.specs.Asked.{Pairs}
-use Rattle.pc_feed.specs.declared.fault.StreamFault.{StreamFault}
+use Rattle.pc_feed.specs.{declared.fault.StreamFault.StreamFault, declared.reading.Reading.Reading, Lines.{lines_in, fault_in}, Feeding.FeedAnswer, Streams.{JudgedSoFar, JudgedBy, ReadSo}, Steps.{MayFollow, HasRoom, LineJudged, Went, RanOut, NextTaken, PieceTaken, GrewBy, first_nodes}}
 use Rattle.pc_feed.specs.declared.fault.StreamFault.TheVariants as fault
-use Rattle.pc_feed.specs.declared.reading.Reading.{Reading}
-use Rattle.pc_feed.specs.Lines.{lines_in, fault_in}
-use Rattle.pc_feed.specs.Feeding.{FeedAnswer}
-use Rattle.pc_feed.specs.Streams.{JudgedSoFar, JudgedBy, ReadSo}
-use Rattle.pc_feed.specs.Steps.{MayFollow, HasRoom, LineJudged, Went, RanOut, NextTaken, PieceTaken, GrewBy, first_nodes}
-use Rattle.pc_feed.proofs.Growing.{grew_none, grew_on}
-use Rattle.pc_feed.proofs.Counting.{comes}
-use Rattle.pc_feed.proofs.Places.{has_room}
+use Rattle.pc_feed.proofs.{Growing.{grew_none, grew_on}, Counting.comes, Places.has_room}
 
 -- ---- a part of a piece
 

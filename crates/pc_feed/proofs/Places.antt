@@ -4,16 +4,11 @@ use Rattle.std.proofs.Common.{inl, inr, ap, sym, subst, ◌∙◌, arith, append
 use Rattle.pc_caps.specs.declared.capability.Cap.{Cap}
 use Rattle.pc_core.specs.CoreData.{CoreData}
 use Rattle.pc_ann.specs.declared.annotation.Note.{Note}
-use Rattle.pc_deriv.specs.declared.line.Line.{Line}
+use Rattle.pc_deriv.specs.{declared.line.Line.Line, Lines.line_of_slot}
 use Rattle.pc_deriv.specs.declared.line.Line.TheVariants as line
-use Rattle.pc_deriv.specs.Lines.{line_of_slot}
 use Rattle.pc_judge.specs.declared.faults.JudgeFault.{JudgeFault}
-use Rattle.pc_feed.specs.declared.judging.Judging.{Judging}
-use Rattle.pc_feed.specs.Lines.{notes_in}
-use Rattle.pc_feed.specs.Streams.{StandsForLines, no_line, after_head, NothingWrong, JudgedBy}
-use Rattle.pc_feed.specs.Steps.{LineFits, Counted, MayFollow, HasRoom}
-use Rattle.pc_feed.proofs.Sayings.{notes_of_nodes, notes_of_slots}
-use Rattle.pc_feed.proofs.Counting.{counted_behind}
+use Rattle.pc_feed.specs.{declared.judging.Judging.Judging, Lines.notes_in, Streams.{StandsForLines, no_line, after_head, NothingWrong, JudgedBy}, Steps.{LineFits, Counted, MayFollow, HasRoom}}
+use Rattle.pc_feed.proofs.{Sayings.{notes_of_nodes, notes_of_slots}, Counting.counted_behind}
 
 -- ---- the notes
 

@@ -1,19 +1,12 @@
 -- By post-order a node's children are the last of the nodes without a parent.
 use Rattle.std.specs.Prelude.{◌≡◌, ◌≢◌, ℕ, zero, suc, ◌+◌, ◌-◌, ◌<◌, ◌≤◌, List, [], ◌∷◌, ◌++◌, length, take, drop, Some, slice_get, slice_range}
-use Rattle.std.proofs.Common.{inl, inr, ap, sym, subst, ◌∙◌, arith}
-use Rattle.std.proofs.lemmas.Bool.{cases_lt}
-use Rattle.std.proofs.lemmas.Option.{same_Some, none-some}
-use Rattle.std.proofs.lemmas.List.{append_cancel_right}
-use Rattle.pc_lists.proofs.Gets.{get_below}
-use Rattle.pc_core.specs.declared.nodes.Node.{Node}
+use Rattle.std.proofs.{Common.{inl, inr, ap, sym, subst, ◌∙◌, arith}, lemmas.Bool.cases_lt, lemmas.Option.{same_Some, none-some}, lemmas.List.append_cancel_right}
+use Rattle.pc_base.proofs.Gets.{get_below}
+use Rattle.pc_core.specs.{declared.nodes.Node.Node, CoreData.{CoreData, node_end}, Methods.PostOrder, Formed.Formed}
 use Rattle.pc_core.specs.declared.nodes.NodeKind.TheVariants as node
-use Rattle.pc_core.specs.CoreData.{CoreData, node_end}
-use Rattle.pc_core.specs.Methods.{PostOrder}
-use Rattle.pc_core.specs.Formed.{Formed}
 use Rattle.pc_core.proofs.Homes.{Home, home}
 use Rattle.pc_rules.proofs.Homes.{home_body}
-use Rattle.pc_feed.specs.Waiting.{WaitingNodes, start, next, body}
-use Rattle.pc_feed.specs.WaitingLaws.{ChildrenWaitLast}
+use Rattle.pc_feed.specs.{Waiting.{WaitingNodes, start, next, body}, WaitingLaws.ChildrenWaitLast}
 
 drop_suc : {A : Type 0} → (xs : List A) (i : ℕ) (x : A) → slice_get xs i ≡ Some x → drop i xs ≡ x ∷ drop (suc i) xs
 drop_suc [] i x e = absurd (none-some x e)

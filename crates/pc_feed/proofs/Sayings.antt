@@ -1,16 +1,12 @@
 -- What lines say, with more lines after them.
 use Rattle.std.specs.Prelude.{◌≡◌, ℕ, zero, suc, ◌+◌, ◌≤◌, List, [], ◌∷◌, ◌++◌, length, map, take, refl}
-use Rattle.std.proofs.Common.{ap, sym, ◌∙◌, arith, append_assoc, append-nil, length-append}
-use Rattle.std.proofs.lemmas.List.{take-append-le}
+use Rattle.std.proofs.{Common.{ap, sym, ◌∙◌, arith, append_assoc, append-nil, length-append}, lemmas.List.take-append-le}
 use Rattle.pc_ann.specs.declared.annotation.Note.{Note}
 use Rattle.pc_valid.specs.Words.{Slots}
 use Rattle.pc_referee.specs.Asked.{Pairs}
-use Rattle.pc_deriv.specs.declared.line.Line.{Line}
+use Rattle.pc_deriv.specs.{declared.line.Line.Line, Lines.line_of_slot}
 use Rattle.pc_deriv.specs.declared.line.Line.TheVariants as line
-use Rattle.pc_deriv.specs.Lines.{line_of_slot}
-use Rattle.pc_feed.specs.Lines.{slots_in, notes_in}
-use Rattle.pc_feed.specs.Numbered.{numbered_notes}
-use Rattle.pc_feed.specs.Steps.{first_nodes}
+use Rattle.pc_feed.specs.{Lines.{slots_in, notes_in}, Numbered.numbered_notes, Steps.first_nodes}
 
 -- ---- notes
 

@@ -7,14 +7,8 @@ use Rattle.pc_deriv.specs.declared.line.Line.{Line}
 use Rattle.pc_deriv.specs.declared.line.Line.TheVariants as line
 use Rattle.pc_judge.specs.declared.faults.JudgeFault.{JudgeFault}
 use Rattle.pc_referee.specs.Asked.{Pairs, asked_after}
-use Rattle.pc_feed.specs.declared.judging.Judging.{Judging}
-use Rattle.pc_feed.specs.Lines.{notes_in}
-use Rattle.pc_feed.specs.Asked.{IsFoundRight}
-use Rattle.pc_feed.specs.Streams.{NothingWrong, FoundRightUpTo, Wrong, JudgedBy, JudgedSoFar}
-use Rattle.pc_feed.specs.Steps.{MayFollow, first_nodes, GrewBy, LineTaken, SameFound, OneFound}
-use Rattle.pc_feed.proofs.Sayings.{notes_app, first_nodes_more, first_nodes_push}
-use Rattle.pc_feed.proofs.Growing.{grew_none, grew_one}
-use Rattle.pc_feed.proofs.Places.{notes_are, right_within}
+use Rattle.pc_feed.specs.{declared.judging.Judging.Judging, Lines.notes_in, Asked.IsFoundRight, Streams.{NothingWrong, FoundRightUpTo, Wrong, JudgedBy, JudgedSoFar}, Steps.{MayFollow, first_nodes, GrewBy, LineTaken, SameFound, OneFound}}
+use Rattle.pc_feed.proofs.{Sayings.{notes_app, first_nodes_more, first_nodes_push}, Growing.{grew_none, grew_one}, Places.{notes_are, right_within}}
 
 -- If no fault is kept, there is none.
 pub nothing : (core : CoreData) (ls : List Line) (j : Judging) → j.fault ≡ None → JudgedSoFar core ls j → NothingWrong core ls j

@@ -1,26 +1,15 @@
 -- Which nodes a referee was asked about, in terms of the state.
 use Rattle.std.specs.Prelude.{◌≡◌, ◌⊎◌, ◌↔◌, ℕ, ◌+◌, ◌-◌, ◌<◌, ◌≤◌, List, [], ◌∷◌, ◌++◌, length, take, drop, Option, Some, None, slice_get, refl}
-use Rattle.std.proofs.Common.{inl, inr, ap, sym, subst, ◌∙◌, arith, append-nil, length-append}
-use Rattle.std.proofs.Math.Seq.{take-add}
-use Rattle.std.proofs.lemmas.Bool.{cases_lt}
-use Rattle.std.proofs.lemmas.Option.{same_Some}
+use Rattle.std.proofs.{Common.{inl, inr, ap, sym, subst, ◌∙◌, arith, append-nil, length-append}, Math.Seq.take-add, lemmas.Bool.cases_lt, lemmas.Option.same_Some}
 use Rattle.pc_caps.specs.declared.capability.Cap.{Cap}
-use Rattle.pc_lists.proofs.Gets.{get_below}
+use Rattle.pc_base.proofs.Gets.{get_below}
 use Rattle.pc_core.specs.CoreData.{CoreData}
 use Rattle.pc_ann.specs.declared.annotation.Note.{Note}
 use Rattle.pc_deriv.specs.declared.line.Line.{Line}
 use Rattle.pc_judge.specs.declared.faults.JudgeFault.{JudgeFault}
 use Rattle.pc_referee.specs.Asked.{Pairs}
-use Rattle.pc_feed.specs.Waiting.{BeginsAnnotation}
-use Rattle.pc_feed.specs.declared.judging.Judging.{Judging}
-use Rattle.pc_feed.specs.Lines.{counts_in, notes_in, so_far}
-use Rattle.pc_feed.specs.Asked.{IsFoundRight, IsAsked, Grew, GrewPart}
-use Rattle.pc_feed.specs.Numbered.{numbered_notes}
-use Rattle.pc_feed.specs.Streams.{StandsForLines, no_line, after_head, NothingWrong, FoundRightUpTo, JudgedBy, JudgedSoFar}
-use Rattle.pc_feed.specs.Steps.{GrewBy, first_nodes}
-use Rattle.pc_feed.proofs.Sayings.{notes_app, first_nodes_more}
-use Rattle.pc_feed.proofs.Places.{notes_are, right_within}
-use Rattle.pc_feed.proofs.NodeLines.{lines_with, so_far_begins}
+use Rattle.pc_feed.specs.{Waiting.BeginsAnnotation, declared.judging.Judging.Judging, Lines.{counts_in, notes_in, so_far}, Asked.{IsFoundRight, IsAsked, Grew, GrewPart}, Numbered.numbered_notes, Streams.{StandsForLines, no_line, after_head, NothingWrong, FoundRightUpTo, JudgedBy, JudgedSoFar}, Steps.{GrewBy, first_nodes}}
+use Rattle.pc_feed.proofs.{Sayings.{notes_app, first_nodes_more}, Places.{notes_are, right_within}, NodeLines.{lines_with, so_far_begins}}
 
 -- ---- all of them, if there is no fault
 

@@ -1,22 +1,14 @@
 -- The notes of the nodes without a parent, after one more node.
 use Rattle.std.specs.Prelude.{◌≡◌, ◌≢◌, ℕ, ◌+◌, ◌-◌, List, [], ◌∷◌, ◌++◌, length, take, drop, Option, Some, slice_get, refl}
-use Rattle.std.proofs.Common.{ap, sym, subst, ◌∙◌, arith, length-append}
-use Rattle.std.proofs.lemmas.Option.{same_Some}
-use Rattle.pc_lists.specs.Lists.{◌>>=◌}
-use Rattle.pc_lists.proofs.Options.{bind_some, bind_is}
-use Rattle.pc_lists.proofs.Gets.{get_behind}
-use Rattle.pc_core.specs.declared.nodes.Node.{Node}
-use Rattle.pc_core.specs.declared.nodes.NodeKind.{NodeKind}
+use Rattle.std.proofs.{Common.{ap, sym, subst, ◌∙◌, arith, length-append}, lemmas.Option.same_Some}
+use Rattle.pc_base.specs.Lists.{◌>>=◌}
+use Rattle.pc_base.proofs.{Options.{bind_some, bind_is}, Gets.get_behind}
+use Rattle.pc_core.specs.{declared.nodes.Node.Node, declared.nodes.NodeKind.NodeKind, CoreData.CoreData, Formed.Formed}
 use Rattle.pc_core.specs.declared.nodes.NodeKind.TheVariants as node
-use Rattle.pc_core.specs.CoreData.{CoreData}
-use Rattle.pc_core.specs.Formed.{Formed}
 use Rattle.pc_ann.specs.declared.annotation.Note.{Note}
 use Rattle.pc_rules.specs.Parts.{notes_of}
-use Rattle.pc_feed.specs.Waiting.{WaitingNodes, next, body}
-use Rattle.pc_feed.proofs.PostOrder.{children_wait_last}
-use Rattle.pc_feed.proofs.Noted.{noted_more, noted_cut}
-use Rattle.pc_feed.specs.Steps.{last_of, all_but_last, put_after, waits_after}
-use Rattle.pc_feed.proofs.Sayings.{count_push}
+use Rattle.pc_feed.specs.{Waiting.{WaitingNodes, next, body}, Steps.{last_of, all_but_last, put_after, waits_after}}
+use Rattle.pc_feed.proofs.{PostOrder.children_wait_last, Noted.{noted_more, noted_cut}, Sayings.count_push}
 
 -- ---- cuts
 

@@ -5,7 +5,7 @@ use Rattle.pc_valid.specs.Valid.{MeetsRule}
 use Rattle.pc_judge.specs.{Faults.KeepsType, AtNodes.NodePasses}
 use Rattle.pc_referee.specs.Asked.{Pairs}
 use Rattle.pc_deriv.specs.declared.line.Line.{Line}
-use Rattle.pc_feed.specs.{Lines.counts_in, Lines.slots_in, Lines.notes_in, Lines.so_far, Numbered.numbered_notes}
+use Rattle.pc_feed.specs.{Lines.{counts_in, slots_in, notes_in, so_far}, Numbered.numbered_notes}
 
 -- The counts are the core's, and each slot so far has the type that is written for it, if one is.
 pub record OpeningFits (core : CoreData) (ls : List Line) : Type 0 where

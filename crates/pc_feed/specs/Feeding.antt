@@ -3,10 +3,10 @@ use Rattle.std.specs.Prelude.{◌≡◌, ℕ, List, ◌++◌, Option, Some, None
 use Rattle.pc_core.specs.CoreData.{CoreData}
 use Rattle.pc_ann.specs.declared.annotation.Ann.{Ann}
 use Rattle.pc_valid.specs.Valid.{Valid}
-use Rattle.pc_deriv.specs.{Text.IsText, Text.IsFault, Laws.as_read}
+use Rattle.pc_deriv.specs.{Text.{IsText, IsFault}, Laws.as_read}
 use Rattle.pc_judge.specs.Faults.{FirstAnnotationFault}
 use Rattle.pc_referee.specs.Asked.{Pairs}
-use Rattle.pc_feed.specs.{declared.fault.StreamFault.StreamFault, Lines.lines_in, Lines.fault_in, Asked.Grew, Asked.GrewPart, Streams.StreamData, Streams.IsFed, Streams.IsSpent}
+use Rattle.pc_feed.specs.{declared.fault.StreamFault.StreamFault, Lines.{lines_in, fault_in}, Asked.{Grew, GrewPart}, Streams.{StreamData, IsFed, IsSpent}}
 use Rattle.pc_feed.specs.declared.fault.StreamFault.TheVariants as fault
 
 abbrev pub FeedAnswer : Type 0

@@ -5,7 +5,7 @@ use Rattle.pc_ann.specs.declared.annotation.Ann.{Ann}
 use Rattle.pc_valid.specs.Valid.{Valid}
 use Rattle.pc_deriv.specs.{declared.line.Line.Line, Text.IsText}
 use Rattle.pc_referee.specs.Asked.{Pairs}
-use Rattle.pc_feed.specs.{Lines.lines_in, Asked.IsAsked, Numbered.numbered_notes, Feeding.FeedAnswer, Feeding.EndsSo}
+use Rattle.pc_feed.specs.{Lines.lines_in, Asked.IsAsked, Numbered.numbered_notes, Feeding.{FeedAnswer, EndsSo}}
 
 -- At most one list of nodes is asked about.
 abbrev pub OneIsAsked : Type 0

@@ -2,11 +2,11 @@
 use Rattle.std.specs.Prelude.{◌≡◌, ℕ, ◌<◌, ◌≤◌, Bool, true, false, List, ◌++◌, length, take, drop, Option, Some, None, IfSome, Result, Ok, Err}
 use Rattle.pc_core.specs.CoreData.{CoreData}
 use Rattle.pc_ann.specs.declared.annotation.Ann.{Ann}
-use Rattle.pc_deriv.specs.{Text.derivation_limit, Text.IsText, Text.IsFault, Laws.as_read}
+use Rattle.pc_deriv.specs.{Text.{derivation_limit, IsText, IsFault}, Laws.as_read}
 use Rattle.pc_valid.specs.Valid.{Valid}
 use Rattle.pc_judge.specs.Faults.{FirstAnnotationFault}
 use Rattle.pc_referee.specs.Asked.{Pairs}
-use Rattle.pc_feed.specs.{declared.parts.DerivationFault.DerivationFault, Lines.lines_in, Asked.IsAsked, Streams.StreamData, Streams.IsFed}
+use Rattle.pc_feed.specs.{declared.parts.DerivationFault.DerivationFault, Lines.lines_in, Asked.IsAsked, Streams.{StreamData, IsFed}}
 use Rattle.pc_feed.specs.declared.parts.DerivationFault.TheVariants as fault
 
 -- how many bytes a part has

@@ -5,9 +5,9 @@ use Rattle.pc_core.specs.{declared.nodes.Slot.Slot, declared.nodes.Node.Node, de
 use Rattle.pc_ann.specs.{declared.annotation.Note.Note, declared.annotation.Ann.Ann}
 use Rattle.pc_valid.specs.Valid.{Valid}
 use Rattle.pc_judge.specs.Faults.{FirstAnnotationFault}
-use Rattle.pc_deriv.specs.{declared.line.Line.Line, Lines.nothing_taken, Lines.counts_with}
+use Rattle.pc_deriv.specs.{declared.line.Line.Line, Lines.{nothing_taken, counts_with}}
 use Rattle.pc_referee.specs.Asked.{Pairs}
-use Rattle.pc_feed.specs.{declared.fault.StreamFault.StreamFault, declared.judging.Judging.Judging, declared.reading.Reading.Reading, Lines.lines_in, Lines.fault_in, Lines.notes_in, Numbered.numbered_notes, Feeding.FeedAnswer, Streams.FoundRightUpTo, Streams.JudgedSoFar, Streams.ReadSo}
+use Rattle.pc_feed.specs.{declared.fault.StreamFault.StreamFault, declared.judging.Judging.Judging, declared.reading.Reading.Reading, Lines.{lines_in, fault_in, notes_in}, Numbered.numbered_notes, Feeding.FeedAnswer, Streams.{FoundRightUpTo, JudgedSoFar, ReadSo}}
 use Rattle.pc_core.specs.declared.nodes.NodeKind.TheVariants as node
 use Rattle.pc_deriv.specs.declared.line.Line.TheVariants as line
 use Rattle.pc_feed.specs.declared.fault.StreamFault.TheVariants as fault

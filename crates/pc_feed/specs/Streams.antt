@@ -5,9 +5,9 @@ use Rattle.pc_ann.specs.{declared.annotation.Note.Note, declared.annotation.Ann.
 use Rattle.pc_sub.specs.Declarations.{DeclOk}
 use Rattle.pc_rules.specs.Parts.{notes_of}
 use Rattle.pc_valid.specs.Words.{Slots}
-use Rattle.pc_judge.specs.{declared.faults.JudgeFault.JudgeFault, Faults.KeepsType, AtNodes.NodePasses, Faults.FirstAnnotationFault}
-use Rattle.pc_deriv.specs.{declared.version.Version.Version, declared.line.Line.Line, Lines.nothing_taken, Lines.fed, Lines.line_of_slot, Lines.lines_of}
-use Rattle.pc_feed.specs.{Waiting.WaitingNodes, Waiting.BeginsAnnotation, declared.judging.Judging.Judging, declared.reading.Reading.Reading, Lines.lines_in, Lines.notes_in, Asked.IsFoundRight}
+use Rattle.pc_judge.specs.{declared.faults.JudgeFault.JudgeFault, Faults.{KeepsType, FirstAnnotationFault}, AtNodes.NodePasses}
+use Rattle.pc_deriv.specs.{declared.version.Version.Version, declared.line.Line.Line, Lines.{nothing_taken, fed, line_of_slot, lines_of}}
+use Rattle.pc_feed.specs.{Waiting.{WaitingNodes, BeginsAnnotation}, declared.judging.Judging.Judging, declared.reading.Reading.Reading, Lines.{lines_in, notes_in}, Asked.IsFoundRight}
 use Rattle.pc_deriv.specs.declared.line.Line.TheVariants as line
 
 -- The core that is judged, and what is known of the text and of its annotation.

@@ -1,26 +1,15 @@
 -- Where the methods of a trait are written.
-use Rattle.std.proofs.Common.{◌≡◌, ℕ, zero, suc, ◌+◌, List, [], ◌∷◌, ◌++◌, Some, Bool, true, false, cond, refl, sym, ap, ◌∙◌, arith, inl, inr}
-use Rattle.std.specs.Prelude.{slice_get, ◌⊎◌, position}
-use Rattle.std.specs.List.{position_from}
-use Rattle.std.specs.Str.{bytes_eq}
-use Rattle.std.proofs.lemmas.Iterator.Adapters.{position_from-zero}
-use Rattle.std.proofs.lemmas.Option.{same_Some, none-some}
-use Rattle.pc_tree.specs.declared.written_names.Name.{Name}
-use Rattle.pc_tree.specs.Kinds.{is_abstract, first_own}
+use Rattle.std.proofs.{Common.{◌≡◌, ℕ, zero, suc, ◌+◌, List, [], ◌∷◌, ◌++◌, Some, Bool, true, false, cond, refl, sym, ap, ◌∙◌, arith, inl, inr}, lemmas.Iterator.Adapters.position_from-zero, lemmas.Option.{same_Some, none-some}}
+use Rattle.std.specs.{Prelude.{slice_get, ◌⊎◌, position}, List.position_from, Str.bytes_eq}
+use Rattle.pc_tree.specs.{declared.written_names.Name.Name, Kinds.{is_abstract, first_own}}
 use Rattle.pc_tree.specs.Tree as t
-use Rattle.pc_lists.specs.Lists.{Has, Differ, Text}
-use Rattle.pc_lists.proofs.Bools.{true_false}
-use Rattle.pc_lists.proofs.Gets.{get_append, get_map}
-use Rattle.pc_lists.proofs.Elements.{has_either}
-use Rattle.pc_members.specs.Members.{built_in_names, texts_of, entity_names}
+use Rattle.pc_base.specs.Lists.{Has, Differ, Text}
+use Rattle.pc_base.proofs.{Bools.true_false, Gets.{get_append, get_map}, Elements.has_either}
+use Rattle.pc_members.specs.{Members.{built_in_names, texts_of, entity_names}, MemberLists.{of_each, trait_methods}}
 use Rattle.pc_members.specs.Members as chain
-use Rattle.pc_members.specs.MemberLists.{of_each, trait_methods}
-use Rattle.pc_members.proofs.Differences.{same_text, equal_texts}
-use Rattle.pc_members.proofs.Named.{named_is}
+use Rattle.pc_members.proofs.{Differences.{same_text, equal_texts}, Named.named_is}
 use Rattle.pc_file_spec.specs.Laws.{WrittenAbove}
-use Rattle.pc_file_spec.proofs.Collects.{Collects}
-use Rattle.pc_file_spec.proofs.Origins.{firsts_has, each_has, provided_trait}
-use Rattle.pc_file_spec.proofs.Entities.{own_entity}
+use Rattle.pc_file_spec.proofs.{Collects.Collects, Origins.{firsts_has, each_has, provided_trait}, Entities.own_entity}
 
 -- ---- the place of a name
 

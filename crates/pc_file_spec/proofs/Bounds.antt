@@ -1,28 +1,16 @@
 -- A trait has all methods of the traits above it, whatever the bound on the length of a chain of `is`.
-use Rattle.std.proofs.Common.{◌≡◌, ℕ, zero, suc, ◌+◌, ◌-◌, ◌<◌, ◌≤◌, List, [], ◌∷◌, ◌++◌, length, Option, Some, None, Bool, true, false, refl, sym, ap, ◌∙◌, subst, arith, if◌then◌else◌, inl, inr}
-use Rattle.std.specs.Prelude.{slice_get, ◌⊎◌}
-use Rattle.std.proofs.lemmas.Bool.{cases_lt}
-use Rattle.std.proofs.lemmas.Option.{same_Some, none-some}
-use Rattle.pc_lists.proofs.Gets.{get_below, get_append, get_map, map_get}
-use Rattle.pc_tree.specs.declared.written_names.Name.{Name}
-use Rattle.pc_tree.specs.Kinds.{is_abstract, first_own}
+use Rattle.std.proofs.{Common.{◌≡◌, ℕ, zero, suc, ◌+◌, ◌-◌, ◌<◌, ◌≤◌, List, [], ◌∷◌, ◌++◌, length, Option, Some, None, Bool, true, false, refl, sym, ap, ◌∙◌, subst, arith, if◌then◌else◌, inl, inr}, lemmas.Bool.cases_lt, lemmas.Option.{same_Some, none-some}}
+use Rattle.std.specs.{Prelude.{slice_get, ◌⊎◌}, Str.bytes_eq}
+use Rattle.pc_base.proofs.{Gets.{get_below, get_append, get_map, map_get}, Bools.true_false, Elements.{has_on, has_either, has_front, has_behind}}
+use Rattle.pc_tree.specs.{declared.written_names.Name.Name, Kinds.{is_abstract, first_own}}
 use Rattle.pc_tree.specs.Tree as t
-use Rattle.pc_lists.specs.Lists.{Has, Differ, Text}
-use Rattle.pc_members.specs.MemberLists.{is_among, firsts, entity_named, of_each, trait_methods}
-use Rattle.pc_members.specs.Parts.{of_entity}
-use Rattle.pc_members.specs.Members.{built_in_names, texts_of, entity_names, method_texts, IsTransitiveClosure}
-use Rattle.pc_members.proofs.Differences.{same_text, among_has}
-use Rattle.pc_members.proofs.Named.{named_is, one_entity}
-use Rattle.pc_lists.proofs.Bools.{true_false}
-use Rattle.std.specs.Str.{bytes_eq}
+use Rattle.pc_base.specs.Lists.{Has, Differ, Text}
+use Rattle.pc_members.specs.{MemberLists.{is_among, firsts, entity_named, of_each, trait_methods}, Parts.of_entity, Members.{built_in_names, texts_of, entity_names, method_texts, IsTransitiveClosure}}
+use Rattle.pc_members.proofs.{Differences.{same_text, among_has}, Named.{named_is, one_entity}}
 use Rattle.pc_members.specs.Members as chain
 use Rattle.pc_names.proofs.CycleFirsts.{no_cycle}
 use Rattle.pc_file_spec.specs.Laws.{TraitsInherit, BoundIsEnough}
-use Rattle.pc_lists.proofs.Elements.{has_on, has_either, has_front, has_behind}
-use Rattle.pc_file_spec.proofs.Collects.{Collects, collects}
-use Rattle.pc_file_spec.proofs.Origins.{provided_trait, abstract_texts}
-use Rattle.pc_file_spec.proofs.Entities.{own_entity, entity_own, position_get}
-use Rattle.pc_file_spec.proofs.Aboves.{names_entity, written_above}
+use Rattle.pc_file_spec.proofs.{Collects.{Collects, collects}, Origins.{provided_trait, abstract_texts}, Entities.{own_entity, entity_own, position_get}, Aboves.{names_entity, written_above}}
 
 -- ---- lists without equal elements
 

@@ -1,28 +1,16 @@
 -- Properties of a file whose names have no fault.
-use Rattle.std.proofs.Common.{◌≡◌, ℕ, zero, suc, ◌+◌, ◌<◌, ◌≤◌, ◌&&◌, ◌||◌, List, [], ◌∷◌, ◌++◌, length, Option, Some, None, Bool, true, false, not, sym, ◌∙◌, subst, arith, append-nil}
+use Rattle.std.proofs.{Common.{◌≡◌, ℕ, zero, suc, ◌+◌, ◌<◌, ◌≤◌, ◌&&◌, ◌||◌, List, [], ◌∷◌, ◌++◌, length, Option, Some, None, Bool, true, false, not, sym, ◌∙◌, subst, arith, append-nil}, lemmas.Bool.{ltb-true, not-false}, lemmas.Option.{same_Some, none-some}, lemmas.List.{length_push, append_assoc}}
 use Rattle.std.specs.Prelude.{nat_lt, codes, drop}
-use Rattle.std.proofs.lemmas.Bool.{ltb-true, not-false}
-use Rattle.std.proofs.lemmas.Option.{same_Some, none-some}
-use Rattle.std.proofs.lemmas.List.{length_push, append_assoc}
-use Rattle.pc_tree.specs.declared.file.ParamDef.{ParamDef}
-use Rattle.pc_tree.specs.declared.written_names.Name.{Name}
-use Rattle.pc_tree.specs.declared.written_names.TypeRef.{TypeRef}
+use Rattle.pc_tree.specs.{declared.file.ParamDef.ParamDef, declared.written_names.Name.Name, declared.written_names.TypeRef.TypeRef, Kinds.first_own}
 use Rattle.pc_tree.specs.Tree as t
-use Rattle.pc_lists.specs.Lists.{Has, Differ, Text}
+use Rattle.pc_base.specs.{Lists.{Has, Differ, Text}, Limits.field_limit}
 use Rattle.pc_names.specs.declared.fault.NameFault.TheVariants as fault
 use Rattle.pc_names.specs.declared.fault.Which.TheVariants as which
-use Rattle.pc_members.specs.MemberLists.{is_among, trait_names}
-use Rattle.pc_members.specs.Members.{built_in_names, entity_names, has_added, field_texts, method_texts}
-use Rattle.pc_names.specs.Faults.{either_fault, type_faults, provided_faults, field_faults, param_faults, signature_faults, method_faults, added_faults, entity_faults, entity_name_faults, declaration_faults, cycle_faults, count_faults, main_faults, NamesData, Collected}
-use Rattle.pc_names.specs.Parts.{where_, result_faults, is_member_name, entities_faults, known_limit}
-use Rattle.pc_caps.specs.Limits.{field_limit}
-use Rattle.pc_tree.specs.Kinds.{first_own}
-use Rattle.pc_members.proofs.Differences.{among_has}
-use Rattle.pc_members.proofs.Completed.{among_parts}
+use Rattle.pc_members.specs.{MemberLists.{is_among, trait_names}, Members.{built_in_names, entity_names, has_added, field_texts, method_texts}}
+use Rattle.pc_names.specs.{Faults.{either_fault, type_faults, provided_faults, field_faults, param_faults, signature_faults, method_faults, added_faults, entity_faults, entity_name_faults, declaration_faults, cycle_faults, count_faults, main_faults, NamesData, Collected}, Parts.{where_, result_faults, is_member_name, entities_faults, known_limit}}
+use Rattle.pc_members.proofs.{Differences.among_has, Completed.among_parts}
 use Rattle.pc_names.proofs.Founded.{where_none, either_none, Adds, adds_differ, all_differ, provided_are}
-use Rattle.pc_lists.proofs.Bools.{true_false}
-use Rattle.pc_lists.proofs.Elements.{differ_none}
-use Rattle.pc_lists.proofs.Cuts.{nil_left, nil_right}
+use Rattle.pc_base.proofs.{Bools.true_false, Elements.differ_none, Cuts.{nil_left, nil_right}}
 
 -- ---- one entity
 

@@ -1,15 +1,12 @@
 -- A file has as few members as its names were counted to have.
-use Rattle.std.proofs.Common.{◌≡◌, ℕ, suc, ◌+◌, ◌≤◌, List, [], ◌∷◌, length, map, arith}
+use Rattle.std.proofs.{Common.{◌≡◌, ℕ, suc, ◌+◌, ◌≤◌, List, [], ◌∷◌, length, map, arith}, lemmas.Bool.ltb-false, lemmas.List.{length-append, length-map}}
 use Rattle.std.specs.Prelude.{nat_lt}
-use Rattle.std.proofs.lemmas.Bool.{ltb-false}
-use Rattle.std.proofs.lemmas.List.{length-append, length-map}
 use Rattle.pc_tree.specs.Tree as t
-use Rattle.pc_lists.proofs.Cuts.{nil_left, nil_right}
+use Rattle.pc_base.proofs.Cuts.{nil_left, nil_right}
 use Rattle.pc_names.specs.declared.fault.NameFault.TheVariants as fault
 use Rattle.pc_names.specs.declared.fault.Which.TheVariants as which
-use Rattle.pc_names.specs.Faults.{count_faults}
-use Rattle.pc_names.specs.Parts.{where_, method_count}
-use Rattle.pc_caps.specs.Limits.{method_limit}
+use Rattle.pc_names.specs.{Faults.count_faults, Parts.{where_, method_count}}
+use Rattle.pc_base.specs.Limits.{method_limit}
 use Rattle.pc_tree.specs.Kinds.{first_own}
 use Rattle.pc_members.specs.MemberLists.{members}
 use Rattle.pc_file_spec.specs.Cores.{owned, members_from}

@@ -1,40 +1,21 @@
 -- The declaration of a member fits.
-use Rattle.std.proofs.Common.{◌≡◌, ℕ, ◌+◌, ◌<◌, List, [], ◌++◌, length, Option, Some, None, Bool, true, false, refl, sym, ap, ◌∙◌, subst, arith, inl, inr, append-nil}
+use Rattle.std.proofs.{Common.{◌≡◌, ℕ, ◌+◌, ◌<◌, List, [], ◌++◌, length, Option, Some, None, Bool, true, false, refl, sym, ap, ◌∙◌, subst, arith, inl, inr, append-nil}, lemmas.Option.none-some}
 use Rattle.std.specs.Prelude.{◌⊎◌, is_some, IsSome}
-use Rattle.std.proofs.lemmas.Option.{none-some}
-use Rattle.pc_caps.specs.declared.capability.Cap.{Cap}
+use Rattle.pc_caps.specs.{declared.capability.Cap.Cap, declared.capability.Form.Form}
 use Rattle.pc_caps.specs.declared.capability.Cap.TheVariants as cap
-use Rattle.pc_caps.specs.declared.capability.Form.{Form}
 use Rattle.pc_caps.specs.declared.capability.Form.TheVariants as form
-use Rattle.pc_tree.specs.declared.kinds.EntityKind.{EntityKind}
+use Rattle.pc_tree.specs.{declared.kinds.EntityKind.EntityKind, declared.kinds.MethodWord.MethodWord, declared.written_names.TypeRef.TypeRef, Kinds.{is_abstract, may_stand, BodyUnless, first_own}}
 use Rattle.pc_tree.specs.declared.kinds.EntityKind.TheVariants as kind
-use Rattle.pc_tree.specs.declared.kinds.MethodWord.{MethodWord}
 use Rattle.pc_tree.specs.declared.kinds.MethodWord.TheVariants as word
-use Rattle.pc_tree.specs.declared.written_names.TypeRef.{TypeRef}
-use Rattle.pc_tree.specs.Kinds.{is_abstract, may_stand, BodyUnless, first_own}
 use Rattle.pc_tree.specs.Tree as t
 use Rattle.pc_tree.proofs.KindFacts.{no_new, same_methods}
-use Rattle.pc_core.specs.declared.declarations.Method.{Method}
-use Rattle.pc_core.specs.declared.declarations.ParamInfo.{ParamInfo}
-use Rattle.pc_core.specs.Methods.{StandsIn, ResultFits}
-use Rattle.pc_core.specs.Entities.{constructor_kind, word_kind}
-use Rattle.pc_lists.specs.Lists.{Each, Has, Ascends}
-use Rattle.pc_lists.proofs.Elements.{ascends_none}
-use Rattle.pc_lists.proofs.Gets.{map_get}
+use Rattle.pc_core.specs.{declared.declarations.Method.Method, declared.declarations.ParamInfo.ParamInfo, Methods.{StandsIn, ResultFits}, Entities.{constructor_kind, word_kind}}
+use Rattle.pc_base.specs.Lists.{Each, Has, Ascends}
+use Rattle.pc_base.proofs.{Elements.ascends_none, Gets.map_get, Bools.{true_false, false_true, first_true, second_true}}
 use Rattle.pc_members.specs.Members.{entity_names, Member, written, added, without_body}
-use Rattle.pc_lists.proofs.Bools.{true_false, false_true, first_true, second_true}
-use Rattle.pc_body_spec.specs.Bodies.{Context, KnownEntity, initial_fields}
-use Rattle.pc_body_spec.specs.Parts.{maybe_body}
-use Rattle.pc_body_spec.specs.Places.{body_places, initial_places, written_body_places}
-use Rattle.pc_body_spec.specs.Slots.{initial_locals}
-use Rattle.pc_body_spec.specs.Parts.{cap_or, body_locals}
-use Rattle.pc_file_spec.specs.Cores.{known_of, param_of, params_of, kind_of, word_receiver, receiver_cap, written_result, object_of, word_result, result_of, member_locals}
-use Rattle.pc_file_spec.specs.Order.{NamesInOrder, InPlace}
-use Rattle.pc_file_spec.proofs.Steps.{member_rose}
-use Rattle.pc_file_spec.proofs.Collects.{Collects, TypesAre, IsType}
-use Rattle.pc_file_spec.proofs.Origins.{Origin, Comes, as_declared, as_own, as_taken, Sort, added_kind, fieldless}
-use Rattle.pc_file_spec.proofs.Types.{type_below}
-use Rattle.pc_file_spec.proofs.Definitions.{MemberOrder}
+use Rattle.pc_body_spec.specs.{Bodies.{Context, KnownEntity, initial_fields}, Parts.{maybe_body, cap_or, body_locals}, Places.{body_places, initial_places, written_body_places}, Slots.initial_locals}
+use Rattle.pc_file_spec.specs.{Cores.{known_of, param_of, params_of, kind_of, word_receiver, receiver_cap, written_result, object_of, word_result, result_of, member_locals}, Order.{NamesInOrder, InPlace}}
+use Rattle.pc_file_spec.proofs.{Steps.member_rose, Collects.{Collects, TypesAre, IsType}, Origins.{Origin, Comes, as_declared, as_own, as_taken, Sort, added_kind, fieldless}, Types.type_below, Definitions.MemberOrder}
 
 -- ---- where methods are allowed
 

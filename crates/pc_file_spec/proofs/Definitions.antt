@@ -1,28 +1,13 @@
 -- Each definition in the body of a member defines one of its locals.
-use Rattle.std.proofs.Common.{◌≡◌, ℕ, zero, suc, ◌+◌, ◌-◌, ◌<◌, ◌≤◌, ◌||◌, List, [], ◌∷◌, length, Some, Bool, true, false, not, refl, sym, ap, ◌∙◌, arith, inl, inr}
+use Rattle.std.proofs.{Common.{◌≡◌, ℕ, zero, suc, ◌+◌, ◌-◌, ◌<◌, ◌≤◌, ◌||◌, List, [], ◌∷◌, length, Some, Bool, true, false, not, refl, sym, ap, ◌∙◌, arith, inl, inr}, lemmas.Bool.{lt-ltb, le-ltb, ltb-true, ltb-false}, lemmas.Option.{same_Some, none-some}}
 use Rattle.std.specs.Prelude.{slice_get, nat_lt}
-use Rattle.std.proofs.lemmas.Bool.{lt-ltb, le-ltb, ltb-true, ltb-false}
-use Rattle.std.proofs.lemmas.Option.{same_Some, none-some}
 use Rattle.pc_tree.specs.Tree as t
 use Rattle.pc_core.specs.declared.nodes.Node.{Node}
 use Rattle.pc_core.specs.declared.nodes.NodeKind.TheVariants as node
-use Rattle.pc_lists.specs.Lists.{Ascends}
-use Rattle.pc_lists.proofs.Gets.{append_get}
-use Rattle.pc_body_spec.specs.Bodies.{Rose, initial_fields, Context, slot_at, params_scope}
-use Rattle.pc_body_spec.specs.Fold.{put}
-use Rattle.pc_body_spec.specs.Faults.{initial_faults}
-use Rattle.pc_body_spec.specs.Parts.{written_body_faults}
-use Rattle.pc_body_spec.specs.Slots.{Local, initial_locals, method_locals}
-use Rattle.pc_body_spec.specs.Places.{body_places, initial_places, local_start}
-use Rattle.pc_body_spec.specs.Counts.{kind_times, times, local_times}
-use Rattle.pc_lists.specs.Counts.{one_if}
-use Rattle.pc_body_spec.specs.Laws.{WasPut}
-use Rattle.pc_body_spec.proofs.Meanings.{left_none, right_none}
-use Rattle.pc_body_spec.proofs.Places.{rising, method_in, initials_in}
-use Rattle.pc_body_spec.proofs.Nodes.{beyond}
-use Rattle.pc_body_spec.proofs.PostOrders.{post_order}
-use Rattle.pc_body_spec.proofs.Once.{maybe_n, added_n, node_times, node_join, put_n, SlotsFrom, next_slots, slots_from}
-use Rattle.pc_lists.proofs.Bools.{true_false}
+use Rattle.pc_base.specs.{Lists.Ascends, Counts.one_if}
+use Rattle.pc_base.proofs.{Gets.append_get, Bools.true_false}
+use Rattle.pc_body_spec.specs.{Bodies.{Rose, initial_fields, Context, slot_at, params_scope}, Fold.put, Faults.initial_faults, Parts.written_body_faults, Slots.{Local, initial_locals, method_locals}, Places.{body_places, initial_places, local_start}, Counts.{kind_times, times, local_times}, Laws.WasPut}
+use Rattle.pc_body_spec.proofs.{Meanings.{left_none, right_none}, Places.{rising, method_in, initials_in}, Nodes.beyond, PostOrders.post_order, Once.{maybe_n, added_n, node_times, node_join, put_n, SlotsFrom, next_slots, slots_from}}
 use Rattle.pc_members.specs.Members.{Member, written, added}
 use Rattle.pc_file_spec.specs.Cores.{member_locals, placed_of}
 use Rattle.pc_file_spec.proofs.Steps.{member_faults, member_rose}

@@ -1,43 +1,20 @@
 -- The entities of a file's core fit.
-use Rattle.std.proofs.Common.{◌≡◌, ℕ, zero, suc, ◌+◌, ◌-◌, ◌<◌, ◌≤◌, List, [], ◌∷◌, ◌++◌, length, map, Some, None, Bool, true, false, refl, sym, ap, ◌∙◌, subst, arith, inl, inr}
-use Rattle.std.specs.Prelude.{slice_get, slice_range, ◌⊎◌, codes, position, replicate}
-use Rattle.std.specs.Str.{bytes_eq}
-use Rattle.std.proofs.lemmas.Option.{same_Some, none-some, slice_get-get_or}
-use Rattle.std.proofs.lemmas.List.{length-map}
-use Rattle.std.proofs.lemmas.List.Quantifiers.{position-Some}
+use Rattle.std.proofs.{Common.{◌≡◌, ℕ, zero, suc, ◌+◌, ◌-◌, ◌<◌, ◌≤◌, List, [], ◌∷◌, ◌++◌, length, map, Some, None, Bool, true, false, refl, sym, ap, ◌∙◌, subst, arith, inl, inr}, lemmas.Option.{same_Some, none-some, slice_get-get_or}, lemmas.List.length-map, lemmas.List.Quantifiers.position-Some}
+use Rattle.std.specs.{Prelude.{slice_get, slice_range, ◌⊎◌, codes, position, replicate}, Str.bytes_eq}
 use Rattle.pc_caps.specs.declared.capability.Cap.TheVariants as cap
-use Rattle.pc_lists.proofs.Gets.{get_front, get_below, get_within, append_get, get_append, get_map, map_get, get_range}
+use Rattle.pc_base.proofs.{Gets.{get_front, get_below, get_within, append_get, get_append, get_map, map_get, get_range}, Elements.{has_front, has_behind, each_none, ascends_none}}
 use Rattle.pc_tree.specs.declared.kinds.EntityKind.TheVariants as kind
 use Rattle.pc_tree.specs.Kinds.{may_have_fields, FieldsIf, first_own}
 use Rattle.pc_tree.specs.Tree as t
-use Rattle.pc_core.specs.declared.declarations.EntityDef.{EntityDef}
-use Rattle.pc_core.specs.declared.declarations.FieldInfo.{FieldInfo}
-use Rattle.pc_core.specs.declared.declarations.Method.{Method}
-use Rattle.pc_core.specs.CoreData.{CoreData, own_methods}
-use Rattle.pc_core.specs.Parts.{field_name, method_name}
-use Rattle.pc_core.specs.Entities.{built_in, built_in_value, out_field, print_method, Provides, Leads, one, more}
-use Rattle.pc_core.specs.Further.{IsAbstract}
-use Rattle.pc_core.specs.EntityFits.{EntityFits}
-use Rattle.pc_lists.specs.Lists.{Each, Has, Differ, Ascends, IsIn, Text}
-use Rattle.pc_members.specs.Members.{built_in_names, texts_of, entity_names, field_texts, method_texts, IsAbove, Member, written, added, member_text}
-use Rattle.pc_members.specs.Parts.{or_nil}
-use Rattle.pc_members.specs.Edges.{entity_numbers}
+use Rattle.pc_core.specs.{declared.declarations.EntityDef.EntityDef, declared.declarations.FieldInfo.FieldInfo, declared.declarations.Method.Method, CoreData.{CoreData, own_methods}, Parts.{field_name, method_name}, Entities.{built_in, built_in_value, out_field, print_method, Provides, Leads, one, more}, Further.IsAbstract, EntityFits.EntityFits}
+use Rattle.pc_base.specs.Lists.{Each, Has, Differ, Ascends, IsIn, Text}
+use Rattle.pc_members.specs.{Members.{built_in_names, texts_of, entity_names, field_texts, method_texts, IsAbove, Member, written, added, member_text}, Parts.or_nil, Edges.entity_numbers, MemberLists.members}
 use Rattle.pc_members.specs.Members as chain
-use Rattle.pc_members.proofs.Differences.{equal_texts}
-use Rattle.pc_members.proofs.Named.{is_trait_named}
-use Rattle.pc_members.proofs.Closings.{numbers_only, numbers_all, no_entity}
-use Rattle.pc_members.specs.MemberLists.{members}
+use Rattle.pc_members.proofs.{Differences.equal_texts, Named.is_trait_named, Closings.{numbers_only, numbers_all, no_entity}}
 use Rattle.pc_file_spec.specs.Cores.{Owned, owned, Parts, core_with, built_ins, core_entity, core_field}
 use Rattle.pc_file_spec.specs.Cores as known
 use Rattle.pc_body_spec.specs.Bodies.{text_from}
-use Rattle.pc_file_spec.proofs.Tables.{text_below, one_text, language_kept, member_there}
-use Rattle.pc_lists.proofs.Elements.{has_front, has_behind, each_none, ascends_none}
-use Rattle.pc_file_spec.proofs.Owners.{starts, own_member}
-use Rattle.pc_file_spec.proofs.Collects.{Sound}
-use Rattle.pc_file_spec.proofs.Origins.{members_differ, Sort, sort_of}
-use Rattle.pc_file_spec.proofs.Types.{type_below}
-use Rattle.pc_file_spec.proofs.Parts.{At}
-use Rattle.pc_file_spec.proofs.Settings.{Setting, all_members, entities_length, entity_get, entity_cases, print_get, method_at, at_get}
+use Rattle.pc_file_spec.proofs.{Tables.{text_below, one_text, language_kept, member_there}, Owners.{starts, own_member}, Collects.Sound, Origins.{members_differ, Sort, sort_of}, Types.type_below, Parts.At, Settings.{Setting, all_members, entities_length, entity_get, entity_cases, print_get, method_at, at_get}}
 
 -- ---- lists
 

@@ -2,28 +2,13 @@
 use Rattle.std.proofs.Common.{◌≡◌, ℕ, ◌+◌, ◌<◌, ◌≤◌, ◌^◌, List, [], ◌∷◌, ◌++◌, length, map, refl, sym, ap, subst, arith}
 use Rattle.std.specs.Prelude.{codes, Result, Ok, Err}
 use Rattle.pc_tree.specs.Tree as t
-use Rattle.pc_core.specs.declared.declarations.EntityDef.{EntityDef}
-use Rattle.pc_core.specs.CoreData.{CoreData}
-use Rattle.pc_core.specs.Entities.{HasBuiltIn}
-use Rattle.pc_lists.specs.Lists.{Follow, Differ}
-use Rattle.pc_core.specs.Formed.{Formed}
+use Rattle.pc_core.specs.{declared.declarations.EntityDef.EntityDef, CoreData.CoreData, Entities.HasBuiltIn, Formed.Formed}
+use Rattle.pc_base.specs.Lists.{Follow, Differ}
 use Rattle.pc_names.specs.declared.fault.NameFault.{NameFault}
 use Rattle.pc_members.specs.Members.{built_in_names, texts_of}
 use Rattle.pc_tree.specs.Kinds.{first_own}
-use Rattle.pc_file_spec.specs.Cores.{Parts, if_ok, parts_of, built_in_parts, core_with, core_of, entities_from}
-use Rattle.pc_file_spec.specs.Laws.{StandsIsFormed, CoresAreSmall, MembersDiffer}
-use Rattle.pc_file_spec.proofs.Origins.{members_differ}
-use Rattle.pc_file_spec.proofs.Tables.{language_kept, texts_differ}
-use Rattle.pc_file_spec.proofs.Steps.{IsOk, same_ok}
-use Rattle.pc_file_spec.proofs.Owners.{methods_run, members_follow}
-use Rattle.pc_file_spec.proofs.Collects.{collects}
-use Rattle.pc_file_spec.proofs.Parts.{Good, AllAt, first_good, all_at}
-use Rattle.pc_file_spec.proofs.Settings.{Setting, all_members, entities_length, print_get, methods_length}
-use Rattle.pc_file_spec.proofs.Entities.{entities_fit}
-use Rattle.pc_file_spec.proofs.Methods.{methods_fit}
-use Rattle.pc_file_spec.proofs.Nodes.{nodes_fit}
-use Rattle.pc_file_spec.proofs.Mains.{has_main}
-use Rattle.pc_file_spec.proofs.Counts.{members_limited}
+use Rattle.pc_file_spec.specs.{Cores.{Parts, if_ok, parts_of, built_in_parts, core_with, core_of, entities_from}, Laws.{StandsIsFormed, CoresAreSmall, MembersDiffer}}
+use Rattle.pc_file_spec.proofs.{Origins.members_differ, Tables.{language_kept, texts_differ}, Steps.{IsOk, same_ok}, Owners.{methods_run, members_follow}, Collects.collects, Parts.{Good, AllAt, first_good, all_at}, Settings.{Setting, all_members, entities_length, print_get, methods_length}, Entities.entities_fit, Methods.methods_fit, Nodes.nodes_fit, Mains.has_main, Counts.members_limited}
 
 pub names_given : (file : t.File) (above : List (List ℕ)) (es : List t.Entity) (n at : ℕ) → map (λ (x : EntityDef). x.name) (entities_from file above n at es) ≡ texts_of es
 names_given file above [] n at = refl

@@ -1,40 +1,18 @@
 -- The body of a member and its locals fit.
-use Rattle.std.proofs.Common.{◌≡◌, ℕ, suc, ◌+◌, ◌-◌, ◌<◌, ◌≤◌, List, [], ◌∷◌, ◌++◌, length, Option, Some, None, Bool, true, false, refl, sym, ap, ◌∙◌, subst, arith, inl, inr}
+use Rattle.std.proofs.{Common.{◌≡◌, ℕ, suc, ◌+◌, ◌-◌, ◌<◌, ◌≤◌, List, [], ◌∷◌, ◌++◌, length, Option, Some, None, Bool, true, false, refl, sym, ap, ◌∙◌, subst, arith, inl, inr}, lemmas.Bool.cases_lt, lemmas.Option.{same_Some, none-some}, lemmas.List.{length-append, length-map, length_push, append_assoc}}
 use Rattle.std.specs.Prelude.{slice_get, slice_range, ◌⊎◌}
-use Rattle.std.proofs.lemmas.Bool.{cases_lt}
-use Rattle.std.proofs.lemmas.Option.{same_Some, none-some}
-use Rattle.std.proofs.lemmas.List.{length-append, length-map, length_push, append_assoc}
 use Rattle.pc_caps.specs.declared.capability.Cap.{Cap}
-use Rattle.pc_lists.proofs.Gets.{get_front, get_below, append_get, get_append}
-use Rattle.pc_tree.specs.declared.written_names.TypeRef.{TypeRef}
-use Rattle.pc_tree.specs.declared.file.ParamDef.{ParamDef}
+use Rattle.pc_base.proofs.Gets.{get_front, get_below, append_get, get_append}
+use Rattle.pc_tree.specs.{declared.written_names.TypeRef.TypeRef, declared.file.ParamDef.ParamDef}
 use Rattle.pc_tree.specs.Tree as t
-use Rattle.pc_core.specs.declared.declarations.Method.{Method}
-use Rattle.pc_core.specs.declared.nodes.Node.{Node}
+use Rattle.pc_core.specs.{declared.declarations.Method.Method, declared.nodes.Node.Node, CoreData.{CoreData, node_end}, Further.own_nodes, Methods.{PostOrder, BodyFits, LocalFits, UsesSlot, is_local}}
 use Rattle.pc_core.specs.declared.nodes.NodeKind.TheVariants as node
-use Rattle.pc_core.specs.CoreData.{CoreData, node_end}
-use Rattle.pc_core.specs.Further.{own_nodes}
-use Rattle.pc_core.specs.Methods.{PostOrder, BodyFits, LocalFits, UsesSlot, is_local}
-use Rattle.pc_lists.specs.Lists.{Each, Has, Differ, IsIn}
-use Rattle.pc_body_spec.specs.Bodies.{Rose, Context, params_scope, params_from}
-use Rattle.pc_body_spec.specs.Fold.{put, local_slot, written_of}
-use Rattle.pc_body_spec.specs.Slots.{Local, local_kind}
-use Rattle.pc_body_spec.specs.Visibility.{Scoped, slots}
-use Rattle.pc_body_spec.specs.Meanings.{NamesWhatIsThere}
-use Rattle.pc_body_spec.specs.Laws.{WasPut, IsItem, IsDefined, IsDefinedOnce}
-use Rattle.pc_body_spec.proofs.BodyScopes.{bodies_are_scoped, added_bodies_are_scoped}
-use Rattle.pc_body_spec.proofs.Locals.{locals_are_defined}
-use Rattle.pc_body_spec.proofs.Nodes.{beyond}
-use Rattle.pc_body_spec.proofs.Once.{locals_are_defined_once, added_locals_are_defined_once}
+use Rattle.pc_base.specs.Lists.{Each, Has, Differ, IsIn}
+use Rattle.pc_body_spec.specs.{Bodies.{Rose, Context, params_scope, params_from}, Fold.{put, local_slot, written_of}, Slots.{Local, local_kind}, Visibility.{Scoped, slots}, Meanings.NamesWhatIsThere, Laws.{WasPut, IsItem, IsDefined, IsDefinedOnce}}
+use Rattle.pc_body_spec.proofs.{BodyScopes.{bodies_are_scoped, added_bodies_are_scoped}, Locals.locals_are_defined, Nodes.beyond, Once.{locals_are_defined_once, added_locals_are_defined_once}}
 use Rattle.pc_members.specs.Members.{Member, written, added}
 use Rattle.pc_file_spec.specs.Cores.{Owned, context_of, placed_of, member_locals, params_of, param_of, Parts, core_with}
-use Rattle.pc_file_spec.proofs.Steps.{member_faults, member_rose, Built}
-use Rattle.pc_file_spec.proofs.Parts.{At}
-use Rattle.pc_file_spec.proofs.Settings.{method_at}
-use Rattle.pc_file_spec.proofs.Types.{written_below}
-use Rattle.pc_file_spec.proofs.Definitions.{MemberOrder, param_count}
-use Rattle.pc_file_spec.proofs.Orders.{one_parent, children_above}
-use Rattle.pc_file_spec.proofs.Ranges.{range_middle}
+use Rattle.pc_file_spec.proofs.{Steps.{member_faults, member_rose, Built}, Parts.At, Settings.method_at, Types.written_below, Definitions.{MemberOrder, param_count}, Orders.{one_parent, children_above}, Ranges.range_middle}
 
 -- ---- what a member's body may refer to
 

@@ -1,37 +1,21 @@
 -- The actor with which a file's program starts.
-use Rattle.std.proofs.Common.{◌≡◌, ℕ, suc, ◌+◌, ◌&&◌, ◌||◌, List, [], ◌∷◌, map, Option, Some, None, Bool, true, false, refl, sym, ap, ◌∙◌, subst, if◌then◌else◌}
-use Rattle.std.specs.Prelude.{slice_get, codes}
-use Rattle.std.specs.List.{list_any}
-use Rattle.std.specs.Str.{bytes_eq}
-use Rattle.pc_lists.proofs.Gets.{get_front, get_map}
+use Rattle.std.proofs.{Common.{◌≡◌, ℕ, suc, ◌+◌, ◌&&◌, ◌||◌, List, [], ◌∷◌, map, Option, Some, None, Bool, true, false, refl, sym, ap, ◌∙◌, subst, if◌then◌else◌}, lemmas.Bool.and_parts}
+use Rattle.std.specs.{Prelude.{slice_get, codes}, List.list_any, Str.bytes_eq}
+use Rattle.pc_base.proofs.{Gets.{get_front, get_map}, Bools.true_false}
 use Rattle.pc_caps.specs.declared.capability.Cap.{Cap}
 use Rattle.pc_caps.specs.declared.capability.Cap.TheVariants as cap
-use Rattle.pc_tree.specs.declared.kinds.EntityKind.{EntityKind}
+use Rattle.pc_tree.specs.{declared.kinds.EntityKind.EntityKind, declared.kinds.MethodWord.MethodWord, declared.file.ParamDef.ParamDef, Kinds.{is_abstract, first_own}}
 use Rattle.pc_tree.specs.declared.kinds.EntityKind.TheVariants as kind
-use Rattle.pc_tree.specs.declared.kinds.MethodWord.{MethodWord}
 use Rattle.pc_tree.specs.declared.kinds.MethodWord.TheVariants as word
-use Rattle.pc_tree.specs.declared.file.ParamDef.{ParamDef}
-use Rattle.pc_tree.specs.Kinds.{is_abstract, first_own}
 use Rattle.pc_tree.specs.Tree as t
-use Rattle.pc_core.specs.CoreData.{CoreData}
-use Rattle.pc_core.specs.EntityFits.{HasMain}
-use Rattle.pc_core.specs.Entities.{word_kind}
+use Rattle.pc_core.specs.{CoreData.CoreData, EntityFits.HasMain, Entities.word_kind}
 use Rattle.pc_names.specs.declared.fault.NameFault.TheVariants as fault
-use Rattle.pc_members.specs.Members.{is_new, written}
+use Rattle.pc_members.specs.{Members.{is_new, written}, MemberLists.{abstract_members, concrete_members, members}}
 use Rattle.pc_members.proofs.Differences.{equal_texts}
-use Rattle.pc_names.specs.Mains.{is_actor, is_val, is_env, takes_env, begins_program, is_main}
-use Rattle.pc_names.specs.Faults.{main_faults}
-use Rattle.pc_lists.proofs.Bools.{true_false}
+use Rattle.pc_names.specs.{Mains.{is_actor, is_val, is_env, takes_env, begins_program, is_main}, Faults.main_faults}
 use Rattle.pc_body_spec.specs.Parts.{cap_or}
-use Rattle.pc_members.specs.MemberLists.{abstract_members, concrete_members, members}
 use Rattle.pc_file_spec.specs.Cores.{Owned, owned, known_of, param_of, Parts, core_with, core_entity}
-use Rattle.pc_file_spec.proofs.Tables.{text_found}
-use Rattle.pc_file_spec.proofs.Owners.{starts, own_member}
-use Rattle.pc_file_spec.proofs.Types.{env_type}
-use Rattle.pc_file_spec.proofs.Parts.{At}
-use Rattle.pc_file_spec.proofs.Settings.{Setting, all_members, entity_get, method_at, at_get}
-use Rattle.pc_file_spec.proofs.Entities.{text_there}
-use Rattle.std.proofs.lemmas.Bool.{and_parts}
+use Rattle.pc_file_spec.proofs.{Tables.text_found, Owners.{starts, own_member}, Types.env_type, Parts.At, Settings.{Setting, all_members, entity_get, method_at, at_get}, Entities.text_there}
 
 -- ---- what the tests mean
 

@@ -1,35 +1,16 @@
 -- The methods of a file's core fit.
-use Rattle.std.proofs.Common.{◌≡◌, ℕ, zero, suc, ◌+◌, ◌<◌, ◌≤◌, List, ◌++◌, length, map, Option, Some, true, refl, sym, ap, ◌∙◌, subst, arith, inl, inr}
+use Rattle.std.proofs.{Common.{◌≡◌, ℕ, zero, suc, ◌+◌, ◌<◌, ◌≤◌, List, ◌++◌, length, map, Option, Some, true, refl, sym, ap, ◌∙◌, subst, arith, inl, inr}, lemmas.Option.{same_Some, none-some}, lemmas.List.append_assoc}
 use Rattle.std.specs.Prelude.{slice_get, slice_range, ◌⊎◌, IsSome, codes}
-use Rattle.std.proofs.lemmas.Option.{same_Some, none-some}
-use Rattle.std.proofs.lemmas.List.{append_assoc}
-use Rattle.pc_lists.proofs.Gets.{get_below, map_get}
+use Rattle.pc_base.proofs.Gets.{get_below, map_get}
 use Rattle.pc_tree.specs.declared.kinds.MethodWord.TheVariants as word
 use Rattle.pc_tree.specs.Kinds.{is_abstract, first_own}
 use Rattle.pc_tree.specs.Tree as t
-use Rattle.pc_core.specs.declared.declarations.Method.{Method}
-use Rattle.pc_core.specs.declared.declarations.ParamInfo.{ParamInfo}
-use Rattle.pc_core.specs.declared.nodes.Node.{Node}
-use Rattle.pc_core.specs.declared.nodes.Slot.{Slot}
-use Rattle.pc_core.specs.CoreData.{CoreData, own_slots}
-use Rattle.pc_core.specs.Entities.{print_method}
-use Rattle.pc_core.specs.Methods.{MethodFits, SlotsFit, LocalFits, BodyFits}
-use Rattle.pc_lists.specs.Lists.{Each, Has}
+use Rattle.pc_core.specs.{declared.declarations.Method.Method, declared.declarations.ParamInfo.ParamInfo, declared.nodes.Node.Node, declared.nodes.Slot.Slot, CoreData.{CoreData, own_slots}, Entities.print_method, Methods.{MethodFits, SlotsFit, LocalFits, BodyFits}}
+use Rattle.pc_base.specs.Lists.{Each, Has}
 use Rattle.pc_body_spec.specs.Fold.{local_slot}
 use Rattle.pc_members.specs.MemberLists.{members}
 use Rattle.pc_file_spec.specs.Cores.{Owned, known_of, context_of, slots_from, member_locals, Parts, core_with, core_entity}
-use Rattle.pc_file_spec.proofs.Tables.{text_below, language_kept}
-use Rattle.pc_file_spec.proofs.Steps.{member_names, slots_count}
-use Rattle.pc_file_spec.proofs.Owners.{starts, Owner, owner_of}
-use Rattle.pc_file_spec.proofs.Origins.{Sort, sort_of}
-use Rattle.pc_file_spec.proofs.Types.{all_count}
-use Rattle.pc_file_spec.proofs.Parts.{At}
-use Rattle.pc_file_spec.proofs.Definitions.{MemberOrder, param_count}
-use Rattle.pc_file_spec.proofs.Settings.{Setting, all_members, entities_length, entity_get, method_at, method_cases}
-use Rattle.pc_file_spec.proofs.Entities.{text_there}
-use Rattle.pc_file_spec.proofs.Declared.{placed_of, member_stands, bodiless, member_order, params_below, member_result, member_fits}
-use Rattle.pc_file_spec.proofs.Locals.{Bodied, body_fits, local_fits, params_count}
-use Rattle.pc_file_spec.proofs.Ranges.{range_middle}
+use Rattle.pc_file_spec.proofs.{Tables.{text_below, language_kept}, Steps.{member_names, slots_count}, Owners.{starts, Owner, owner_of}, Origins.{Sort, sort_of}, Types.all_count, Parts.At, Definitions.{MemberOrder, param_count}, Settings.{Setting, all_members, entities_length, entity_get, method_at, method_cases}, Entities.text_there, Declared.{placed_of, member_stands, bodiless, member_order, params_below, member_result, member_fits}, Locals.{Bodied, body_fits, local_fits, params_count}, Ranges.range_middle}
 
 module _ (file : t.File) (above : List (List ℕ)) (q : Parts) (s : Setting file above q) where
   abbrev core : CoreData

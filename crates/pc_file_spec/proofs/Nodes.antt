@@ -1,42 +1,18 @@
 -- The nodes of a file's core fit.
-use Rattle.std.proofs.Common.{◌≡◌, ℕ, zero, suc, ◌+◌, ◌-◌, ◌<◌, ◌≤◌, List, ◌∷◌, ◌++◌, length, map, Option, Some, Bool, true, false, refl, sym, ap, ◌∙◌, subst, arith, inl, inr}
+use Rattle.std.proofs.{Common.{◌≡◌, ℕ, zero, suc, ◌+◌, ◌-◌, ◌<◌, ◌≤◌, List, ◌∷◌, ◌++◌, length, map, Option, Some, Bool, true, false, refl, sym, ap, ◌∙◌, subst, arith, inl, inr}, lemmas.Bool.cases_lt, lemmas.Option.{same_Some, none-some}, lemmas.List.{length-map, append_assoc}}
 use Rattle.std.specs.Prelude.{slice_get, ◌⊎◌}
-use Rattle.std.proofs.lemmas.Bool.{cases_lt}
-use Rattle.std.proofs.lemmas.Option.{same_Some, none-some}
-use Rattle.std.proofs.lemmas.List.{length-map, append_assoc}
-use Rattle.pc_lists.proofs.Gets.{get_front, get_below, get_within, append_get, get_append, get_map}
-use Rattle.pc_tree.specs.declared.kinds.EntityKind.{EntityKind}
+use Rattle.pc_base.proofs.{Gets.{get_front, get_below, get_within, append_get, get_append, get_map}, Bools.true_false}
+use Rattle.pc_tree.specs.{declared.kinds.EntityKind.EntityKind, declared.kinds.MethodWord.MethodWord, Kinds.first_own}
 use Rattle.pc_tree.specs.declared.kinds.EntityKind.TheVariants as kind
-use Rattle.pc_tree.specs.declared.kinds.MethodWord.{MethodWord}
 use Rattle.pc_tree.specs.declared.kinds.MethodWord.TheVariants as word
 use Rattle.pc_tree.specs.Tree as t
-use Rattle.pc_core.specs.declared.nodes.Node.{Node}
-use Rattle.pc_core.specs.declared.nodes.NodeKind.{NodeKind}
+use Rattle.pc_core.specs.{declared.nodes.Node.Node, declared.nodes.NodeKind.NodeKind, declared.nodes.Slot.Slot, CoreData.CoreData, Methods.{UsesSlot, is_local}, Entities.{constructor_kind, word_kind, param_slot}, Nodes.{NodeFits, NamesFit, NamesPrimitive, NamesSlot, NamesLocal}, Further.NamesMethod}
 use Rattle.pc_core.specs.declared.nodes.NodeKind.TheVariants as node
-use Rattle.pc_core.specs.declared.nodes.Slot.{Slot}
-use Rattle.pc_core.specs.CoreData.{CoreData}
-use Rattle.pc_core.specs.Methods.{UsesSlot, is_local}
-use Rattle.pc_core.specs.Entities.{constructor_kind, word_kind, param_slot}
-use Rattle.pc_core.specs.Nodes.{NodeFits, NamesFit, NamesPrimitive, NamesSlot, NamesLocal}
-use Rattle.pc_core.specs.Further.{NamesMethod}
-use Rattle.pc_lists.specs.Lists.{Each, Has}
-use Rattle.pc_members.specs.Members.{is_new, Member, written, added}
-use Rattle.pc_tree.specs.Kinds.{first_own}
-use Rattle.pc_lists.proofs.Bools.{true_false}
-use Rattle.pc_body_spec.specs.Bodies.{Context, KnownEntity, Constructor}
-use Rattle.pc_body_spec.specs.Slots.{Local, local_kind}
-use Rattle.pc_body_spec.specs.Fold.{local_slot}
-use Rattle.pc_body_spec.specs.Meanings.{NamesWhatIsThere, IsOfKind, IsConstructor}
-use Rattle.pc_body_spec.specs.Laws.{HasChildren}
-use Rattle.pc_members.specs.MemberLists.{is_constructor, members}
+use Rattle.pc_base.specs.Lists.{Each, Has}
+use Rattle.pc_members.specs.{Members.{is_new, Member, written, added}, MemberLists.{is_constructor, members}}
+use Rattle.pc_body_spec.specs.{Bodies.{Context, KnownEntity, Constructor}, Slots.{Local, local_kind}, Fold.local_slot, Meanings.{NamesWhatIsThere, IsOfKind, IsConstructor}, Laws.HasChildren}
 use Rattle.pc_file_spec.specs.Cores.{Owned, owned, known_of, known_from, built_in_known, context_of, slots_from, own_this, params_of, member_locals, kind_of, Parts, core_with, core_entity}
-use Rattle.pc_file_spec.proofs.Steps.{names_count, slots_count, member_names}
-use Rattle.pc_file_spec.proofs.Owners.{starts, own_member, known_at, constructor_at}
-use Rattle.pc_file_spec.proofs.Parts.{At}
-use Rattle.pc_file_spec.proofs.Settings.{Setting, all_members, entity_get, method_at, at_get}
-use Rattle.pc_file_spec.proofs.Definitions.{param_count, defined_within}
-use Rattle.pc_file_spec.proofs.Locals.{Bodied, all_nodes, node_in, own_method, used, child_own, visible_within, params_count}
-use Rattle.pc_file_spec.proofs.Methods.{ordered}
+use Rattle.pc_file_spec.proofs.{Steps.{names_count, slots_count, member_names}, Owners.{starts, own_member, known_at, constructor_at}, Parts.At, Settings.{Setting, all_members, entity_get, method_at, at_get}, Definitions.{param_count, defined_within}, Locals.{Bodied, all_nodes, node_in, own_method, used, child_own, visible_within, params_count}, Methods.ordered}
 
 -- ---- known entities
 

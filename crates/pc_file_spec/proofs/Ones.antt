@@ -1,13 +1,11 @@
 -- A file has only one core, or one fault.
-use Rattle.std.proofs.Common.{◌≡◌, List, sym, ap, ◌∙◌, subst, inl, inr, refl}
+use Rattle.std.proofs.{Common.{◌≡◌, List, sym, ap, ◌∙◌, subst, inl, inr, refl}, lemmas.Option.same_Some}
 use Rattle.std.specs.Prelude.{◌⊎◌, ℕ, Option, Some, None, Result, Ok, Err}
-use Rattle.std.proofs.lemmas.Option.{same_Some}
 use Rattle.pc_core.specs.CoreData.{CoreData}
 use Rattle.pc_tree.specs.Tree as t
 use Rattle.pc_names.specs.declared.fault.NameFault.{NameFault}
 use Rattle.pc_names.proofs.Ones.{one_closing}
-use Rattle.pc_file_spec.specs.Cores.{core_of, Stands, IsElabFault}
-use Rattle.pc_file_spec.specs.Laws.{CoreOrFault, OneCore, OneFault, NotBoth}
+use Rattle.pc_file_spec.specs.{Cores.{core_of, Stands, IsElabFault}, Laws.{CoreOrFault, OneCore, OneFault, NotBoth}}
 
 abbrev value : Result CoreData NameFault → Option CoreData
 value (Ok a) = Some a

@@ -1,12 +1,9 @@
 -- In post-order a node is the child of at most one other.
-use Rattle.std.proofs.Common.{◌≡◌, ℕ, zero, suc, ◌+◌, ◌<◌, ◌≤◌, List, [], ◌∷◌, ◌++◌, length, Some, refl, sym, ap, ◌∙◌, arith, inl, inr}
+use Rattle.std.proofs.{Common.{◌≡◌, ℕ, zero, suc, ◌+◌, ◌<◌, ◌≤◌, List, [], ◌∷◌, ◌++◌, length, Some, refl, sym, ap, ◌∙◌, arith, inl, inr}, lemmas.Option.{same_Some, none-some}}
 use Rattle.std.specs.Prelude.{slice_get}
-use Rattle.std.proofs.lemmas.Option.{same_Some, none-some}
-use Rattle.pc_lists.proofs.Gets.{get_front, get_below, get_push, get_append}
-use Rattle.pc_core.specs.declared.nodes.Node.{Node}
-use Rattle.pc_lists.specs.Lists.{Each, Has, Differ}
-use Rattle.pc_core.specs.Methods.{PostOrder}
-use Rattle.pc_lists.proofs.Elements.{below_next}
+use Rattle.pc_base.proofs.{Gets.{get_front, get_below, get_push, get_append}, Elements.below_next}
+use Rattle.pc_core.specs.{declared.nodes.Node.Node, Methods.PostOrder}
+use Rattle.pc_base.specs.Lists.{Each, Has, Differ}
 
 -- The nodes without a parent before a node.
 waited : (waiting rest : List ℕ) (x y : Node) (c : ℕ) → waiting ≡ rest ++ x.children → x ≡ y → Has y.children c → (k : ℕ) × (slice_get waiting (length rest + k) ≡ Some c)

@@ -1,28 +1,16 @@
 -- Where the members of an entity come from.
-use Rattle.std.proofs.Common.{◌≡◌, ℕ, zero, suc, ◌&&◌, List, [], ◌∷◌, ◌++◌, length, map, Option, Some, None, Bool, true, false, not, refl, sym, ap, ◌∙◌, subst, if◌then◌else◌, inl, inr, append-nil}
+use Rattle.std.proofs.{Common.{◌≡◌, ℕ, zero, suc, ◌&&◌, List, [], ◌∷◌, ◌++◌, length, map, Option, Some, None, Bool, true, false, not, refl, sym, ap, ◌∙◌, subst, if◌then◌else◌, inl, inr, append-nil}, lemmas.Bool.not-true, lemmas.Option.{same_Some, none-some}, lemmas.List.{append_assoc, map-append}}
 use Rattle.std.specs.Prelude.{◌⊎◌, codes}
-use Rattle.std.proofs.lemmas.Bool.{not-true}
-use Rattle.std.proofs.lemmas.Option.{same_Some, none-some}
-use Rattle.std.proofs.lemmas.List.{append_assoc, map-append}
-use Rattle.pc_tree.specs.declared.kinds.EntityKind.{EntityKind}
+use Rattle.pc_tree.specs.{declared.kinds.EntityKind.EntityKind, declared.written_names.Name.Name, Kinds.{is_abstract, may_stand, FieldsIf}, Members.MayHaveFields}
 use Rattle.pc_tree.specs.declared.kinds.EntityKind.TheVariants as kind
-use Rattle.pc_tree.specs.declared.written_names.Name.{Name}
 use Rattle.pc_tree.specs.declared.kinds.MethodWord.TheVariants as word
-use Rattle.pc_tree.specs.Kinds.{is_abstract, may_stand, FieldsIf}
-use Rattle.pc_tree.specs.Members.{MayHaveFields}
 use Rattle.pc_tree.specs.Tree as t
 use Rattle.pc_tree.proofs.KindFacts.{created, no_fields}
-use Rattle.pc_lists.specs.Lists.{Has, Differ, Text}
-use Rattle.pc_lists.proofs.Gets.{map_get}
-use Rattle.pc_members.specs.MemberLists.{is_among, firsts, entity_named, of_each, trait_methods, abstract_methods, methods_taken_over, taken_over, abstract_members, concrete_members, members}
-use Rattle.pc_members.specs.Parts.{of_entity}
-use Rattle.pc_members.specs.Members.{has_added, has_constructor, field_texts, method_texts, Member, written, added, without_body, own_texts, is_takable, member_text}
-use Rattle.pc_members.specs.Parts.{added_text, added_if}
-use Rattle.pc_members.proofs.Differences.{differ_push}
-use Rattle.pc_members.proofs.Named.{named_is, one_entity, is_trait_named}
-use Rattle.pc_lists.proofs.Bools.{true_false, first_true, second_true}
+use Rattle.pc_base.specs.Lists.{Has, Differ, Text}
+use Rattle.pc_base.proofs.{Gets.map_get, Bools.{true_false, first_true, second_true}, Elements.{has_on, has_either, differ_none}}
+use Rattle.pc_members.specs.{MemberLists.{is_among, firsts, entity_named, of_each, trait_methods, abstract_methods, methods_taken_over, taken_over, abstract_members, concrete_members, members}, Parts.{of_entity, added_text, added_if}, Members.{has_added, has_constructor, field_texts, method_texts, Member, written, added, without_body, own_texts, is_takable, member_text}}
+use Rattle.pc_members.proofs.{Differences.differ_push, Named.{named_is, one_entity, is_trait_named}}
 use Rattle.pc_file_spec.specs.Order.{InPlace}
-use Rattle.pc_lists.proofs.Elements.{has_on, has_either, differ_none}
 use Rattle.pc_names.proofs.Founded.{Adds, adds_differ}
 use Rattle.pc_file_spec.proofs.Collects.{Collects}
 

@@ -1,15 +1,12 @@
 -- Entities and their members, by their numbers.
-use Rattle.std.proofs.Common.{◌≡◌, ℕ, zero, suc, ◌+◌, ◌-◌, List, [], ◌∷◌, length, map, Some, Bool, true, false, refl, sym, ap, ◌∙◌, subst, arith, if◌then◌else◌, inl, inr}
+use Rattle.std.proofs.{Common.{◌≡◌, ℕ, zero, suc, ◌+◌, ◌-◌, List, [], ◌∷◌, length, map, Some, Bool, true, false, refl, sym, ap, ◌∙◌, subst, arith, if◌then◌else◌, inl, inr}, lemmas.Option.{same_Some, none-some}, lemmas.List.{length-append, length-map}}
 use Rattle.std.specs.Prelude.{slice_get}
-use Rattle.std.proofs.lemmas.Option.{same_Some, none-some}
-use Rattle.std.proofs.lemmas.List.{length-append, length-map}
-use Rattle.pc_lists.proofs.Gets.{get_front, append_get, get_append, get_map, map_get}
+use Rattle.pc_base.proofs.Gets.{get_front, append_get, get_append, get_map, map_get}
 use Rattle.pc_tree.specs.Tree as t
 use Rattle.pc_core.specs.declared.declarations.EntityDef.{EntityDef}
-use Rattle.pc_lists.specs.Lists.{Follow}
+use Rattle.pc_base.specs.Lists.{Follow}
 use Rattle.pc_body_spec.specs.Bodies.{KnownEntity, Constructor}
-use Rattle.pc_members.specs.Members.{Member, member_text}
-use Rattle.pc_members.specs.MemberLists.{is_constructor, members}
+use Rattle.pc_members.specs.{Members.{Member, member_text}, MemberLists.{is_constructor, members}}
 use Rattle.pc_file_spec.specs.Cores.{Owned, owned, members_from, known_from, constructors_from, core_entity, entities_from}
 
 -- How many members the first i entities have.

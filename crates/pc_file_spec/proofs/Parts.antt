@@ -1,24 +1,14 @@
 -- The parts of a program, as they grow member by member.
-use Rattle.std.proofs.Common.{◌≡◌, ℕ, zero, suc, ◌+◌, ◌-◌, ◌*◌, ◌<◌, ◌≤◌, List, [], ◌∷◌, ◌++◌, length, map, Option, Some, refl, sym, ap, ◌∙◌, subst, inl, inr, arith, append-nil}
+use Rattle.std.proofs.{Common.{◌≡◌, ℕ, zero, suc, ◌+◌, ◌-◌, ◌*◌, ◌<◌, ◌≤◌, List, [], ◌∷◌, ◌++◌, length, map, Option, Some, refl, sym, ap, ◌∙◌, subst, inl, inr, arith, append-nil}, lemmas.Bool.cases_lt, lemmas.Option.{same_Some, none-some}, lemmas.List.{length-append, length_push, map-append, append_assoc}}
 use Rattle.std.specs.Prelude.{slice_get, Result, Ok, Err}
-use Rattle.std.proofs.lemmas.Bool.{cases_lt}
-use Rattle.std.proofs.lemmas.Option.{same_Some, none-some}
-use Rattle.std.proofs.lemmas.List.{length-append, length_push, map-append, append_assoc}
-use Rattle.pc_lists.proofs.Gets.{get_below, append_get}
+use Rattle.pc_base.proofs.{Gets.{get_below, append_get}, Ranges.follow_append}
 use Rattle.pc_tree.specs.Tree as t
-use Rattle.pc_core.specs.declared.declarations.Method.{Method}
-use Rattle.pc_core.specs.declared.nodes.Slot.{Slot}
-use Rattle.pc_core.specs.declared.nodes.Node.{Node}
-use Rattle.pc_lists.specs.Lists.{Follow, Each}
-use Rattle.pc_core.specs.CoreData.{node_end}
-use Rattle.pc_lists.proofs.Ranges.{follow_append}
+use Rattle.pc_core.specs.{declared.declarations.Method.Method, declared.nodes.Slot.Slot, declared.nodes.Node.Node, CoreData.node_end}
+use Rattle.pc_base.specs.{Lists.{Follow, Each}, Limits.node_limit}
 use Rattle.pc_names.specs.declared.fault.NameFault.{NameFault}
-use Rattle.pc_caps.specs.Limits.{node_limit}
-use Rattle.pc_body_spec.specs.Bodies.{Context}
-use Rattle.pc_body_spec.specs.Methods.{MethodOutcome}
+use Rattle.pc_body_spec.specs.{Bodies.Context, Methods.MethodOutcome}
 use Rattle.pc_file_spec.specs.Cores.{Owned, texts_of_file, context_of, slots_from, declared, Parts, outcome, joined_parts, with_outcome, and_member, and_members, if_ok, built_in_parts}
-use Rattle.pc_file_spec.proofs.Tables.{language_kept}
-use Rattle.pc_file_spec.proofs.Steps.{IsOk, same_ok, Made, made, Behind, behind, slots_count, member_names}
+use Rattle.pc_file_spec.proofs.{Tables.language_kept, Steps.{IsOk, same_ok, Made, made, Behind, behind, slots_count, member_names}}
 
 -- ---- extended parts
 

@@ -1,19 +1,13 @@
 -- A file whose names have no fault and whose members all become parts of a program.
-use Rattle.std.proofs.Common.{◌≡◌, ℕ, zero, suc, ◌+◌, ◌-◌, ◌<◌, List, [], ◌∷◌, ◌++◌, length, Some, refl, sym, ap, ◌∙◌, arith, inl, inr}
+use Rattle.std.proofs.{Common.{◌≡◌, ℕ, zero, suc, ◌+◌, ◌-◌, ◌<◌, List, [], ◌∷◌, ◌++◌, length, Some, refl, sym, ap, ◌∙◌, arith, inl, inr}, lemmas.Option.same_Some}
 use Rattle.std.specs.Prelude.{slice_get, ◌⊎◌}
-use Rattle.std.proofs.lemmas.Option.{same_Some}
-use Rattle.pc_lists.proofs.Gets.{get_front, get_behind, get_below, get_within, append_get, get_append}
+use Rattle.pc_base.proofs.Gets.{get_front, get_behind, get_below, get_within, append_get, get_append}
 use Rattle.pc_tree.specs.Tree as t
-use Rattle.pc_core.specs.declared.declarations.EntityDef.{EntityDef}
-use Rattle.pc_core.specs.declared.declarations.Method.{Method}
-use Rattle.pc_core.specs.Entities.{print_method}
+use Rattle.pc_core.specs.{declared.declarations.EntityDef.EntityDef, declared.declarations.Method.Method, Entities.print_method}
 use Rattle.pc_members.specs.Members.{IsTransitiveClosure}
 use Rattle.pc_tree.specs.Kinds.{first_own}
-use Rattle.pc_file_spec.specs.Cores.{Owned, members_from, context_of, slots_from, declared, Parts, built_in_parts, core_with, built_ins, core_entity, entities_from}
-use Rattle.pc_file_spec.specs.Order.{InPlace, NamesInOrder}
-use Rattle.pc_file_spec.proofs.Owners.{starts, entity_at, at_entity, entities_count}
-use Rattle.pc_file_spec.proofs.Collects.{Collects}
-use Rattle.pc_file_spec.proofs.Parts.{At, AllAt}
+use Rattle.pc_file_spec.specs.{Cores.{Owned, members_from, context_of, slots_from, declared, Parts, built_in_parts, core_with, built_ins, core_entity, entities_from}, Order.{InPlace, NamesInOrder}}
+use Rattle.pc_file_spec.proofs.{Owners.{starts, entity_at, at_entity, entities_count}, Collects.Collects, Parts.{At, AllAt}}
 
 abbrev pub all_members : t.File → List Owned
 all_members file = members_from file.entities first_own file.entities

@@ -1,25 +1,17 @@
 -- The small files have names without a fault, and their trees are as texts spell them; so they have these cores, which
 -- are formed.
-use Rattle.std.proofs.Common.{◌≡◌, ℕ, zero, suc, ◌<◌, ◌^◌, List, [], ◌∷◌, length, Some, Bool, true, false, refl, sym, subst, arith, if◌then◌else◌}
+use Rattle.std.proofs.{Common.{◌≡◌, ℕ, zero, suc, ◌<◌, ◌^◌, List, [], ◌∷◌, length, Some, Bool, true, false, refl, sym, subst, arith, if◌then◌else◌}, lemmas.Bool.ltb-true, lemmas.Option.{same_Some, none-some}}
 use Rattle.std.specs.Prelude.{slice_get, nat_lt, Ok}
-use Rattle.std.proofs.lemmas.Bool.{ltb-true}
-use Rattle.std.proofs.lemmas.Option.{same_Some, none-some}
-use Rattle.pc_tree.specs.Kinds.{may_stand}
-use Rattle.pc_tree.specs.Members.{MayHaveFields, HasBody}
+use Rattle.pc_tree.specs.{Kinds.may_stand, Members.{MayHaveFields, HasBody}}
 use Rattle.pc_tree.specs.Tree as t
 use Rattle.pc_core.specs.CoreData.{CoreData}
-use Rattle.pc_lists.specs.Lists.{Has, Ascends}
-use Rattle.pc_members.specs.Members.{entity_names}
-use Rattle.pc_members.specs.Edges.{above_all, edges_of}
+use Rattle.pc_base.specs.Lists.{Has, Ascends}
+use Rattle.pc_members.specs.{Members.entity_names, Edges.{above_all, edges_of}}
 use Rattle.pc_names.specs.Faults.{Collected, name_faults}
 use Rattle.pc_members.proofs.Closings.{closes}
-use Rattle.pc_lists.proofs.Bools.{true_false}
-use Rattle.pc_lists.proofs.Elements.{differ_none}
-use Rattle.pc_body_spec.specs.Fold.{push}
-use Rattle.pc_body_spec.specs.Places.{body_places, initial_places}
-use Rattle.pc_file_spec.specs.Cores.{texts_of_file, core_of, Stands}
-use Rattle.pc_file_spec.specs.Order.{NamesInOrder, InPlace}
-use Rattle.pc_file_spec.specs.Example.{FirstStands, SecondStands, ThirdIsRefused, first_file, first_core, second_file, second_core, third_file, trait_a, trait_b, trait_t, trait_u, class_c, main, class_d, primitive_p, second_main, FourthStands, fourth_file, fourth_core, trait_with_bodies, trait_above, class_with_field, fourth_main}
+use Rattle.pc_base.proofs.{Bools.true_false, Elements.differ_none}
+use Rattle.pc_body_spec.specs.{Fold.push, Places.{body_places, initial_places}}
+use Rattle.pc_file_spec.specs.{Cores.{texts_of_file, core_of, Stands}, Order.{NamesInOrder, InPlace}, Example.{FirstStands, SecondStands, ThirdIsRefused, first_file, first_core, second_file, second_core, third_file, trait_a, trait_b, trait_t, trait_u, class_c, main, class_d, primitive_p, second_main, FourthStands, fourth_file, fourth_core, trait_with_bodies, trait_above, class_with_field, fourth_main}}
 use Rattle.pc_file_spec.proofs.Formation.{stands_is_formed}
 
 -- ---- properties of all elements

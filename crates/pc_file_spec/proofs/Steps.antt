@@ -1,23 +1,12 @@
 -- The outcome of one member.
-use Rattle.std.proofs.Common.{◌≡◌, ℕ, suc, ◌+◌, ◌<◌, ◌≤◌, List, [], ◌∷◌, ◌++◌, length, map, Option, Some, None, refl, sym, ap, ◌∙◌, subst, inl, inr, arith, append-nil}
+use Rattle.std.proofs.{Common.{◌≡◌, ℕ, suc, ◌+◌, ◌<◌, ◌≤◌, List, [], ◌∷◌, ◌++◌, length, map, Option, Some, None, refl, sym, ap, ◌∙◌, subst, inl, inr, arith, append-nil}, lemmas.Bool.cases_lt, lemmas.Option.{same_Some, none-some}, lemmas.List.{length-append, length-map}}
 use Rattle.std.specs.Prelude.{slice_get, ◌⊎◌, Result, Ok, Err}
-use Rattle.std.proofs.lemmas.Bool.{cases_lt}
-use Rattle.std.proofs.lemmas.Option.{same_Some, none-some}
-use Rattle.std.proofs.lemmas.List.{length-append, length-map}
-use Rattle.pc_lists.proofs.Gets.{get_within}
-use Rattle.pc_caps.specs.declared.span.Span.{Span}
-use Rattle.pc_tree.specs.declared.written_names.Name.{Name}
-use Rattle.pc_tree.specs.declared.file.ParamDef.{ParamDef}
+use Rattle.pc_base.proofs.Gets.{get_within}
+use Rattle.pc_base.specs.{declared.span.Span.Span, Lists.Each}
+use Rattle.pc_tree.specs.{declared.written_names.Name.Name, declared.file.ParamDef.ParamDef}
 use Rattle.pc_tree.specs.Tree as t
-use Rattle.pc_core.specs.declared.nodes.Node.{Node}
-use Rattle.pc_lists.specs.Lists.{Each}
-use Rattle.pc_core.specs.Entities.{param_slot}
-use Rattle.pc_body_spec.specs.Bodies.{Rose, body_of, added_body, Context}
-use Rattle.pc_body_spec.specs.Fold.{Numbered, put, local_slot}
-use Rattle.pc_body_spec.specs.Faults.{BodyNameFault, body_faults, initial_faults}
-use Rattle.pc_body_spec.specs.Slots.{Local, initial_locals, method_locals}
-use Rattle.pc_body_spec.specs.Methods.{MethodOutcome, slot_names, local_names, param_names, unless_fault, unless_name, unless_full, numbered_or_full, put_body}
-use Rattle.pc_body_spec.specs.Laws.{BodyStands}
+use Rattle.pc_core.specs.{declared.nodes.Node.Node, Entities.param_slot}
+use Rattle.pc_body_spec.specs.{Bodies.{Rose, body_of, added_body, Context}, Fold.{Numbered, put, local_slot}, Faults.{BodyNameFault, body_faults, initial_faults}, Slots.{Local, initial_locals, method_locals}, Methods.{MethodOutcome, slot_names, local_names, param_names, unless_fault, unless_name, unless_full, numbered_or_full, put_body}, Laws.BodyStands}
 use Rattle.pc_body_spec.proofs.Bodies.{bodies_stand, added_bodies_stand}
 use Rattle.pc_members.specs.Members.{Member, written, added}
 use Rattle.pc_file_spec.specs.Cores.{Owned, slots_from, params_of, param_of, member_locals, outcome}

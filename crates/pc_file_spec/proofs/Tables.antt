@@ -1,22 +1,15 @@
 -- The texts of a file.
-use Rattle.std.proofs.Common.{◌≡◌, ℕ, zero, suc, ◌+◌, ◌<◌, List, [], ◌∷◌, ◌++◌, length, Some, Bool, true, false, refl, sym, ap, ◌∙◌, subst, if◌then◌else◌, inl, inr, arith, ⊎_elim}
-use Rattle.std.specs.Prelude.{slice_get, codes}
-use Rattle.std.specs.Str.{bytes_eq}
-use Rattle.std.proofs.lemmas.Option.{same_Some, none-some}
-use Rattle.pc_lists.proofs.Gets.{get_front, get_behind, get_below}
-use Rattle.pc_lists.specs.Lists.{Has, Differ, Text}
+use Rattle.std.proofs.{Common.{◌≡◌, ℕ, zero, suc, ◌+◌, ◌<◌, List, [], ◌∷◌, ◌++◌, length, Some, Bool, true, false, refl, sym, ap, ◌∙◌, subst, if◌then◌else◌, inl, inr, arith, ⊎_elim}, lemmas.Option.{same_Some, none-some}}
+use Rattle.std.specs.{Prelude.{slice_get, codes}, Str.bytes_eq}
+use Rattle.pc_base.proofs.{Gets.{get_front, get_behind, get_below}, Bools.true_false, Elements.{differ_none, has_front, has_behind}}
+use Rattle.pc_base.specs.Lists.{Has, Differ, Text}
 use Rattle.pc_tree.specs.Tree as t
-use Rattle.pc_members.specs.MemberLists.{is_among, with_name, with_names}
-use Rattle.pc_members.specs.Members.{field_texts, method_texts}
+use Rattle.pc_members.specs.{MemberLists.{is_among, with_name, with_names}, Members.{field_texts, method_texts}}
 use Rattle.pc_names.specs.Faults.{with_members}
 use Rattle.pc_members.proofs.Differences.{names_differ, same_text, equal_texts, among_has}
 use Rattle.pc_names.proofs.OtherTexts.{members_differ}
-use Rattle.pc_lists.proofs.Bools.{true_false}
-use Rattle.pc_lists.proofs.Elements.{differ_none, has_front, has_behind}
-use Rattle.pc_body_spec.specs.Bodies.{text_from}
-use Rattle.pc_body_spec.specs.Slots.{entities_texts}
-use Rattle.pc_file_spec.specs.Cores.{texts_of_file}
-use Rattle.pc_file_spec.specs.Laws.{IsNeeded, TextsAreThere}
+use Rattle.pc_body_spec.specs.{Bodies.text_from, Slots.entities_texts}
+use Rattle.pc_file_spec.specs.{Cores.texts_of_file, Laws.{IsNeeded, TextsAreThere}}
 
 -- ---- tables
 

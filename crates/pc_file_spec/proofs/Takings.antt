@@ -1,28 +1,16 @@
 -- Where the members of an entity come from: its own methods, and what is written above it.
-use Rattle.std.proofs.Common.{◌≡◌, ℕ, zero, suc, ◌+◌, ◌&&◌, List, [], ◌∷◌, ◌++◌, length, map, Option, Some, None, Bool, true, false, not, refl, sym, ap, ◌∙◌, subst, if◌then◌else◌, inl, inr}
+use Rattle.std.proofs.{Common.{◌≡◌, ℕ, zero, suc, ◌+◌, ◌&&◌, List, [], ◌∷◌, ◌++◌, length, map, Option, Some, None, Bool, true, false, not, refl, sym, ap, ◌∙◌, subst, if◌then◌else◌, inl, inr}, lemmas.Bool.not-false, lemmas.Option.{same_Some, none-some}, lemmas.List.append_assoc}
 use Rattle.std.specs.Prelude.{slice_get, ◌⊎◌}
-use Rattle.std.proofs.lemmas.Bool.{not-false}
-use Rattle.std.proofs.lemmas.Option.{same_Some, none-some}
-use Rattle.std.proofs.lemmas.List.{append_assoc}
-use Rattle.pc_tree.specs.declared.kinds.EntityKind.{EntityKind}
+use Rattle.pc_tree.specs.{declared.kinds.EntityKind.EntityKind, Kinds.first_own}
 use Rattle.pc_tree.specs.Tree as t
-use Rattle.pc_lists.specs.Lists.{Has, Text}
-use Rattle.pc_lists.proofs.Bools.{true_false, no_both}
-use Rattle.pc_lists.proofs.Elements.{has_on, has_either, has_front, has_behind}
-use Rattle.pc_lists.proofs.Gets.{get_map, map_get}
-use Rattle.pc_members.specs.MemberLists.{is_among, entity_named, of_each, abstract_methods, methods_taken_over, taken_over, abstract_members, concrete_members, members}
-use Rattle.pc_members.specs.Members.{field_texts, method_texts, has_added, Member, written, added, without_body, own_texts, is_takable, member_text}
-use Rattle.pc_members.specs.Parts.{added_text, added_if}
-use Rattle.pc_tree.specs.Kinds.{first_own}
-use Rattle.pc_members.proofs.Differences.{has_among, among_has}
-use Rattle.pc_members.proofs.Named.{named_is, one_entity}
+use Rattle.pc_base.specs.Lists.{Has, Text}
+use Rattle.pc_base.proofs.{Bools.{true_false, no_both}, Elements.{has_on, has_either, has_front, has_behind}, Gets.{get_map, map_get}}
+use Rattle.pc_members.specs.{MemberLists.{is_among, entity_named, of_each, abstract_methods, methods_taken_over, taken_over, abstract_members, concrete_members, members}, Members.{field_texts, method_texts, has_added, Member, written, added, without_body, own_texts, is_takable, member_text}, Parts.{added_text, added_if}}
+use Rattle.pc_members.proofs.{Differences.{has_among, among_has}, Named.{named_is, one_entity}}
 use Rattle.pc_members.specs.Members as chain
 use Rattle.pc_file_spec.specs.Laws.{WrittenAbove, TraitsHaveNoBodies, BodiesAreTaken, BodiesAreThere}
 use Rattle.pc_names.proofs.Founded.{Adds}
-use Rattle.pc_file_spec.proofs.Collects.{Collects, collects}
-use Rattle.pc_file_spec.proofs.Origins.{each_has, provided_trait, taken_has, taken_add, concrete_texts}
-use Rattle.pc_file_spec.proofs.Aboves.{names_entity, above_named, written_above}
-use Rattle.pc_file_spec.proofs.Bounds.{each_there, named_there}
+use Rattle.pc_file_spec.proofs.{Collects.{Collects, collects}, Origins.{each_has, provided_trait, taken_has, taken_add, concrete_texts}, Aboves.{names_entity, above_named, written_above}, Bounds.{each_there, named_there}}
 
 -- ---- names that are taken over
 

@@ -1,23 +1,17 @@
 -- The types that a file writes, by their numbers.
-use Rattle.std.proofs.Common.{◌≡◌, ℕ, zero, suc, ◌+◌, ◌<◌, List, [], ◌∷◌, ◌++◌, length, map, Option, Some, Bool, true, false, refl, sym, ap, ◌∙◌, subst, arith, if◌then◌else◌}
-use Rattle.std.specs.Prelude.{slice_get, codes}
-use Rattle.std.specs.Str.{bytes_eq}
-use Rattle.std.proofs.lemmas.Option.{same_Some, none-some}
+use Rattle.std.proofs.{Common.{◌≡◌, ℕ, zero, suc, ◌+◌, ◌<◌, List, [], ◌∷◌, ◌++◌, length, map, Option, Some, Bool, true, false, refl, sym, ap, ◌∙◌, subst, arith, if◌then◌else◌}, lemmas.Option.{same_Some, none-some}}
+use Rattle.std.specs.{Prelude.{slice_get, codes}, Str.bytes_eq}
 use Rattle.pc_caps.specs.declared.capability.Cap.{Cap}
 use Rattle.pc_caps.specs.declared.capability.Cap.TheVariants as cap
-use Rattle.pc_tree.specs.declared.written_names.TypeRef.{TypeRef}
+use Rattle.pc_tree.specs.{declared.written_names.TypeRef.TypeRef, Kinds.first_own}
 use Rattle.pc_tree.specs.Tree as t
-use Rattle.pc_lists.specs.Lists.{Text}
+use Rattle.pc_base.specs.Lists.{Text}
 use Rattle.pc_members.specs.Members.{built_in_names, entity_names}
-use Rattle.pc_tree.specs.Kinds.{first_own}
 use Rattle.pc_members.proofs.Differences.{same_text}
-use Rattle.pc_lists.proofs.Bools.{true_false}
-use Rattle.pc_body_spec.specs.Bodies.{KnownEntity}
-use Rattle.pc_body_spec.specs.Fold.{type_of_name}
-use Rattle.pc_body_spec.specs.Parts.{cap_or}
+use Rattle.pc_base.proofs.Bools.{true_false}
+use Rattle.pc_body_spec.specs.{Bodies.KnownEntity, Fold.type_of_name, Parts.cap_or}
 use Rattle.pc_file_spec.specs.Cores.{known_of, or_value, type_in}
-use Rattle.pc_file_spec.proofs.Owners.{known_names, known_count}
-use Rattle.pc_file_spec.proofs.Collects.{IsType}
+use Rattle.pc_file_spec.proofs.{Owners.{known_names, known_count}, Collects.IsType}
 
 abbrev pub known_name : KnownEntity → Text
 known_name x = x.name

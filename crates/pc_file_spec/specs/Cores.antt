@@ -1,12 +1,12 @@
 -- The core of a file, made member by member.
 use Rattle.std.specs.Prelude.{ℕ, suc, ◌+◌, List, [], ◌∷◌, ◌++◌, length, Option, codes, if◌then◌else◌, map, Bool, true, false, Some, None, Result, Ok, Err, ◌≡◌, ◌<◌, ◌^◌, slice_get, unwrap_or}
-use Rattle.pc_caps.specs.{declared.capability.Cap.Cap, Tables.plain, Tables.unalias, declared.capability.Form.Form}
-use Rattle.pc_tree.specs.{declared.kinds.EntityKind.EntityKind, declared.kinds.MethodWord.MethodWord, declared.written_names.TypeRef.TypeRef, declared.file.ParamDef.ParamDef, Kinds.none_entity, Kinds.first_own}
-use Rattle.pc_lists.specs.Lists.{Text}
-use Rattle.pc_names.specs.{Faults.built_in_texts, Faults.with_members, Faults.NamesData, Faults.Collected, declared.fault.NameFault.NameFault}
-use Rattle.pc_members.specs.{MemberLists.with_names, MemberLists.is_constructor, MemberLists.members, MemberLists.member_span, Members.Member, Members.member_text, Members.field_texts, Members.written, Members.added, Members.entity_names, Edges.entity_numbers}
-use Rattle.pc_body_spec.specs.{Bodies.KnownEntity, Bodies.Constructor, Bodies.Context, Bodies.PlacedLocal, Bodies.number_of_text, Bodies.text_from, Slots.Local, Slots.initial_locals, Slots.method_locals, Slots.slots_of, Slots.added_slots, Slots.entities_texts, Fold.type_of_name, Fold.local_slot, Faults.BodyNameFault, Faults.unknown, Faults.double, Faults.long_text, Methods.MethodFault, Methods.in_body, Methods.slots_full, Methods.nodes_full, Methods.MethodOutcome, Methods.method_of, Methods.added_of}
-use Rattle.pc_core.specs.{declared.declarations.Method.Method, declared.declarations.MethodKind.MethodKind, declared.declarations.ParamInfo.ParamInfo, declared.nodes.Slot.Slot, Entities.constructor_kind, Entities.word_kind, Entities.param_slot, Entities.print_method, Entities.built_in, Entities.built_in_value, Entities.out_field, declared.nodes.Node.Node, declared.declarations.EntityDef.EntityDef, declared.declarations.FieldInfo.FieldInfo, CoreData.CoreData}
+use Rattle.pc_caps.specs.{declared.capability.Cap.Cap, Tables.{plain, unalias}, declared.capability.Form.Form}
+use Rattle.pc_tree.specs.{declared.kinds.EntityKind.EntityKind, declared.kinds.MethodWord.MethodWord, declared.written_names.TypeRef.TypeRef, declared.file.ParamDef.ParamDef, Kinds.{none_entity, first_own}}
+use Rattle.pc_base.specs.Lists.{Text}
+use Rattle.pc_names.specs.{Faults.{built_in_texts, with_members, NamesData, Collected}, declared.fault.NameFault.NameFault}
+use Rattle.pc_members.specs.{MemberLists.{with_names, is_constructor, members, member_span}, Members.{Member, member_text, field_texts, written, added, entity_names}, Edges.entity_numbers}
+use Rattle.pc_body_spec.specs.{Bodies.{KnownEntity, Constructor, Context, PlacedLocal, number_of_text, text_from}, Slots.{Local, initial_locals, method_locals, slots_of, added_slots, entities_texts}, Fold.{type_of_name, local_slot}, Faults.{BodyNameFault, unknown, double, long_text}, Methods.{MethodFault, in_body, slots_full, nodes_full, MethodOutcome, method_of, added_of}}
+use Rattle.pc_core.specs.{declared.declarations.Method.Method, declared.declarations.MethodKind.MethodKind, declared.declarations.ParamInfo.ParamInfo, declared.nodes.Slot.Slot, Entities.{constructor_kind, word_kind, param_slot, print_method, built_in, built_in_value, out_field}, declared.nodes.Node.Node, declared.declarations.EntityDef.EntityDef, declared.declarations.FieldInfo.FieldInfo, CoreData.CoreData}
 use Rattle.pc_caps.specs.declared.capability.Cap.TheVariants as cap
 use Rattle.pc_tree.specs.declared.kinds.EntityKind.TheVariants as kind
 use Rattle.pc_tree.specs.Tree as t

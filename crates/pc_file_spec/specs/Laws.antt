@@ -1,13 +1,12 @@
 -- Laws of the cores of files.
 use Rattle.std.specs.Prelude.{◌≡◌, ◌⊎◌, ◌↔◌, ℕ, ◌+◌, ◌<◌, ◌≤◌, ◌^◌, true, false, [], ◌∷◌, ◌++◌, map, length, Some, slice_get, codes}
-use Rattle.pc_caps.specs.Limits.{node_limit, program_slot_limit}
+use Rattle.pc_base.specs.{Limits.{node_limit, program_slot_limit}, Lists.{Has, Differ, Text}}
 use Rattle.pc_core.specs.{CoreData.CoreData, Formed.Formed}
-use Rattle.pc_lists.specs.Lists.{Has, Differ, Text}
-use Rattle.pc_tree.specs.{Kinds.is_abstract, Kinds.first_own, declared.written_names.Name.Name}
-use Rattle.pc_names.specs.{declared.fault.NameFault.NameFault, Faults.NamesData, Faults.Collected}
-use Rattle.pc_members.specs.{Members.LeadsInFile, Members.field_texts, Members.method_texts, Members.Member, Members.written, Members.without_body, Members.is_takable, Members.own_texts, Members.member_text, MemberLists.trait_methods, MemberLists.abstract_methods, MemberLists.members}
+use Rattle.pc_tree.specs.{Kinds.{is_abstract, first_own}, declared.written_names.Name.Name}
+use Rattle.pc_names.specs.{declared.fault.NameFault.NameFault, Faults.{NamesData, Collected}}
+use Rattle.pc_members.specs.{Members.{LeadsInFile, field_texts, method_texts, Member, written, without_body, is_takable, own_texts, member_text}, MemberLists.{trait_methods, abstract_methods, members}}
 use Rattle.pc_body_spec.specs.Slots.{entities_texts}
-use Rattle.pc_file_spec.specs.{Cores.texts_of_file, Cores.Stands, Cores.IsElabFault, Order.NamesInOrder, Order.InPlace}
+use Rattle.pc_file_spec.specs.{Cores.{texts_of_file, Stands, IsElabFault}, Order.{NamesInOrder, InPlace}}
 use Rattle.pc_tree.specs.Tree as t
 
 -- A file whose names have no fault, and which does not have too many texts, has a core, or a fault of its members.

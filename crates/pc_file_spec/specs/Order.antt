@@ -1,7 +1,7 @@
 -- Properties of the tree of a file that a text spells.
 use Rattle.std.specs.Prelude.{◌≡◌, true}
-use Rattle.pc_tree.specs.{Kinds.may_stand, Members.MayHaveFields, Members.HasBody}
-use Rattle.pc_lists.specs.Lists.{Has, Ascends}
+use Rattle.pc_tree.specs.{Kinds.may_stand, Members.{MayHaveFields, HasBody}}
+use Rattle.pc_base.specs.Lists.{Has, Ascends}
 use Rattle.pc_body_spec.specs.Places.{body_places, initial_places}
 use Rattle.pc_tree.specs.Tree as t
 

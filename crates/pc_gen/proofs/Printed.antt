@@ -1,11 +1,8 @@
 -- The printed text of the tree of a generated program is its text.
-use Rattle.std.proofs.Common.{◌≡◌, ℕ, suc, ◌+◌, ◌*◌, ◌==◌, Bool, true, false, List, [], ◌∷◌, ◌++◌, codes, map, flat_map, refl, sym, ap, ap₂, ◌∙◌, arith, append_assoc, append-nil}
-use Rattle.std.specs.Fmt.{decimal, digits}
-use Rattle.std.specs.List.{range_with_len}
-use Rattle.std.proofs.lemmas.List.{map-append}
-use Rattle.std.proofs.lemmas.List.Concat.{flat_map-append}
+use Rattle.std.proofs.{Common.{◌≡◌, ℕ, suc, ◌+◌, ◌*◌, ◌==◌, Bool, true, false, List, [], ◌∷◌, ◌++◌, codes, map, flat_map, refl, sym, ap, ap₂, ◌∙◌, arith, append_assoc, append-nil}, lemmas.List.map-append, lemmas.List.Concat.flat_map-append}
+use Rattle.std.specs.{Fmt.{decimal, digits}, List.range_with_len}
 use Rattle.pc_draws.specs.Draws.{draw}
-use Rattle.pc_lists.specs.Lists.{Text, line_end}
+use Rattle.pc_base.specs.Lists.{Text, line_end}
 use Rattle.pc_print.specs.Printing.{printed, printed_entity, printed_expr, printed_item, printed_items, printed_method, printed_seq}
 use Rattle.pc_tree.specs.Parts.{items_of}
 use Rattle.pc_tree.specs.Tree as t

@@ -1,9 +1,7 @@
 -- The turns of the schedule of a generated program, and their number.
-use Rattle.std.proofs.Common.{◌≡◌, ◌≤◌, ℕ, zero, suc, ◌+◌, ◌*◌, List, [], ◌∷◌, ◌++◌, map, refl, sym, ap, ◌∙◌, arith}
+use Rattle.std.proofs.{Common.{◌≡◌, ◌≤◌, ℕ, zero, suc, ◌+◌, ◌*◌, List, [], ◌∷◌, ◌++◌, map, refl, sym, ap, ◌∙◌, arith}, lemmas.List.FromFn.map-range_with_len_more}
 use Rattle.std.specs.List.{range_with_len}
-use Rattle.std.proofs.lemmas.List.FromFn.{map-range_with_len_more}
-use Rattle.pc_sched.specs.Schedules.{turn_limit, total}
-use Rattle.pc_sched.specs.declared.turns.Turn.{Turn}
+use Rattle.pc_sched.specs.{Schedules.{turn_limit, total}, declared.turns.Turn.Turn}
 use Rattle.pc_gen.specs.Generated.{schedule}
 
 -- 400 turns of the actor after this number

@@ -1,7 +1,6 @@
 -- The text of the program that is generated from a seed and a size, and the schedule by which it is run.
-use Rattle.std.specs.Prelude.{ℕ, ◌+◌, ◌*◌, ◌==◌, List, [], ◌∷◌, ◌++◌, if◌then◌else◌, codes, decimal, flat_map, map}
-use Rattle.std.specs.List.{range_with_len}
-use Rattle.pc_lists.specs.Lists.{Text, line_end}
+use Rattle.std.specs.{Prelude.{ℕ, ◌+◌, ◌*◌, ◌==◌, List, [], ◌∷◌, ◌++◌, if◌then◌else◌, codes, decimal, flat_map, map}, List.range_with_len}
+use Rattle.pc_base.specs.Lists.{Text, line_end}
 use Rattle.pc_draws.specs.Draws.{draw}
 use Rattle.pc_sched.specs.declared.turns.Turn.{Turn}
 

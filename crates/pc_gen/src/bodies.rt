@@ -11,7 +11,8 @@ use crate::parts::{
     param, recovered, sequence, turns, variable,
 };
 use crate::task::Task;
-use pc_caps::{Cap, List};
+use pc_base::List;
+use pc_caps::Cap;
 use pc_tree::{Expr, Item, Op, ParamDef, Seq, Suffix};
 use std::alloc::{AllocError, Global};
 

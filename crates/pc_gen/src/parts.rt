@@ -5,7 +5,8 @@ ghost use Rattle.pc_tree.specs.Tree as t;
 ghost use Rattle.pc_gen.specs.Program as spec;
 ghost use Rattle.pc_tree.specs.Parts.{exprs_of};
 
-use pc_caps::{Cap, List, ShortBytes, Span};
+use pc_base::{List, ShortBytes, Span};
+use pc_caps::Cap;
 use pc_tree::{
     Arm, Entity, EntityKind, Expr, Item, MethodDef, MethodWord, Name, Op, ParamDef, Seq, Suffix,
     TypeRef,

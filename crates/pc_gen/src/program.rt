@@ -11,7 +11,8 @@ use crate::parts::{
     method, named, number, one, param, sequence, type_of, variable,
 };
 use crate::task::{Task, task_of};
-use pc_caps::{Cap, List};
+use pc_base::List;
+use pc_caps::Cap;
 use pc_draws::Draws;
 use pc_tree::{
     Entity, EntityKind, Expr, FieldDef, File, Item, MethodDef, MethodWord, Op, ParamDef,

@@ -3,7 +3,7 @@ ghost use Rattle.std.specs.Prelude.{◌≡◌, ◌≤◌, IfOk};
 ghost use Rattle.pc_gen.specs.Generated.{schedule};
 ghost use Rattle.pc_sched.specs.Schedules.{turn_limit, total};
 
-use pc_caps::List;
+use pc_base::List;
 use pc_sched::Turn;
 use std::alloc::{AllocError, Global};
 

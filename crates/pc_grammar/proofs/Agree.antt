@@ -2,15 +2,11 @@
 use Rattle.std.proofs.Common.{◌≡◌, ℕ, zero, suc, ◌<◌, ◌≤◌, Bool, true, false, List, ◌∷◌, length, Option, Some, None, Ok, Err, refl, ap, subst, arith, cond, ◌⊎◌, inl, inr}
 use Rattle.pc_tree.specs.Tree as t
 use Rattle.pc_tree.specs.declared.kinds.Op.{Op}
-use Rattle.pc_token.specs.declared.kinds.Token.{Token}
-use Rattle.pc_token.specs.declared.kinds.TokenKind.{TokenKind}
+use Rattle.pc_token.specs.{declared.kinds.Token.Token, declared.kinds.TokenKind.TokenKind, declared.words.Word.Word, Words.{is_sign, is_word}}
 use Rattle.pc_token.specs.declared.kinds.TokenKind.TheVariants as k
-use Rattle.pc_token.specs.declared.words.Word.{Word}
 use Rattle.pc_token.specs.declared.words.Word.TheVariants as w
 use Rattle.pc_token.specs.declared.signs.Sign.TheVariants as s
-use Rattle.pc_token.specs.Words.{is_sign, is_word}
-use Rattle.pc_grammar.specs.Spells.{op_of}
-use Rattle.pc_grammar.specs.Reading.{too_deep, ReadingOutcome, Parser, Inner, and_then, pure, ◌>>=◌, peek, take_if, deeper, many, many_step, all, name, maybe_type, maybe_cap, group, arm, if_, while_, recover_, other, atom, atom_at, args, arg_list, suffix, postfix, negation, consume, term, infix_in, infix_with, infix_by, becomes, assigns, expr_in, expr_with, local, item, seq_in, seq_with, inner, next_item, after, at, is_op, begins_suffix}
+use Rattle.pc_grammar.specs.{Spells.op_of, Reading.{too_deep, ReadingOutcome, Parser, Inner, and_then, pure, ◌>>=◌, peek, take_if, deeper, many, many_step, all, name, maybe_type, maybe_cap, group, arm, if_, while_, recover_, other, atom, atom_at, args, arg_list, suffix, postfix, negation, consume, term, infix_in, infix_with, infix_by, becomes, assigns, expr_in, expr_with, local, item, seq_in, seq_with, inner, next_item, after, at, is_op, begins_suffix}}
 
 abbrev pub Agree : {A : Type 0} → ReadingOutcome A → ReadingOutcome A → Type 0
 Agree o q = (o ≡ q) ⊎ ((r : List Token) × (o ≡ Err (too_deep, r)))

@@ -1,16 +1,12 @@
 -- With more levels left a file is read in the same way, except if a level was one too many.
 use Rattle.std.proofs.Common.{ℕ, ◌≤◌, Bool}
-use Rattle.pc_tree.specs.declared.kinds.EntityKind.{EntityKind}
+use Rattle.pc_tree.specs.{declared.kinds.EntityKind.EntityKind, declared.kinds.MethodWord.MethodWord, Kinds.{is_abstract, may_have_fields}}
 use Rattle.pc_tree.specs.declared.kinds.EntityKind.TheVariants as kind
-use Rattle.pc_tree.specs.declared.kinds.MethodWord.{MethodWord}
 use Rattle.pc_tree.specs.declared.kinds.MethodWord.TheVariants as method
-use Rattle.pc_tree.specs.Kinds.{is_abstract, may_have_fields}
 use Rattle.pc_token.specs.declared.words.Word.TheVariants as w
 use Rattle.pc_token.specs.declared.signs.Sign.TheVariants as s
 use Rattle.pc_token.specs.Words.{is_sign, is_word}
-use Rattle.pc_grammar.specs.Spells.{local_word, method_word, entity_word}
-use Rattle.pc_grammar.specs.Reading.{◌>>◌, pure, peek, take_if, at, inner, name, type_name, written_type}
-use Rattle.pc_grammar.specs.ReadingFile.{maybe_doc, params, provides, entity_cap, method_cap, method_result, value, field, begins_field, some_field, fields, written_body, maybe_body, body, method_of, word_in, begins_method, some_method, entity_of, entity, begins_entity, file}
+use Rattle.pc_grammar.specs.{Spells.{local_word, method_word, entity_word}, Reading.{◌>>◌, pure, peek, take_if, at, inner, name, type_name, written_type}, ReadingFile.{maybe_doc, params, provides, entity_cap, method_cap, method_result, value, field, begins_field, some_field, fields, written_body, maybe_body, body, method_of, word_in, begins_method, some_method, entity_of, entity, begins_entity, file}}
 use Rattle.pc_grammar.proofs.Agree.{Agrees, same, bind_agrees, cond_agrees, all_agrees, inner_agrees, infix_agrees, seq_agrees}
 
 module _ (n m : ℕ) (le : n ≤ m) where

@@ -1,24 +1,14 @@
 -- What is spelled is read, if what follows does not continue it.
 use Rattle.std.proofs.Common.{◌≡◌, ℕ, zero, suc, ◌-◌, ◌<◌, ◌≤◌, true, false, List, [], ◌∷◌, ◌++◌, length, Option, Some, Ok, refl, sym, ap, ap₂, ◌∙◌, subst, arith, append_assoc, length-append}
-use Rattle.pc_caps.specs.declared.span.Span.{Span}
+use Rattle.pc_base.specs.declared.span.Span.{Span}
 use Rattle.pc_tree.specs.Tree as t
-use Rattle.pc_tree.specs.Depths.{depth, exprs_depth, suffix_depth, suffixes_depth, arm_depth, arms_depth, other_depth, seq_depth, item_depth, items_depth}
-use Rattle.pc_tree.specs.declared.kinds.Op.{Op}
-use Rattle.pc_token.specs.declared.kinds.Token.{Token}
+use Rattle.pc_tree.specs.{Depths.{depth, exprs_depth, suffix_depth, suffixes_depth, arm_depth, arms_depth, other_depth, seq_depth, item_depth, items_depth}, declared.kinds.Op.Op}
+use Rattle.pc_token.specs.{declared.kinds.Token.Token, declared.words.Word.Word, Words.{is_sign, is_word}}
 use Rattle.pc_token.specs.declared.kinds.TokenKind.TheVariants as k
-use Rattle.pc_token.specs.declared.words.Word.{Word}
 use Rattle.pc_token.specs.declared.words.Word.TheVariants as w
 use Rattle.pc_token.specs.declared.signs.Sign.TheVariants as s
-use Rattle.pc_token.specs.Words.{is_sign, is_word}
-use Rattle.pc_grammar.specs.Spells.{IsNext, IsSome, is_atom, is_term, is_infix, is_place, span_from_to, over, Spells, SpellsTerms, SpellsMoreTerms, SpellsSuffix, SpellsSuffixes, SpellsArgs, SpellsMoreArgs, SpellsArm, SpellsMoreArms, SpellsOther, SpellsSeq, SpellsItems, SpellsMoreItems, SpellsItem}
-use Rattle.pc_grammar.specs.Reading.{Parser, Inner, many, all, next_item, after, at, begins_suffix, begins_item, is_op, arm, arg_list, other, suffix, atom, term, item, infix_in, expr_in, seq_in, seq_of, infix_of, postfix, chain_of, inner, last_suffix, maybe_cap, if_}
-use Rattle.pc_grammar.proofs.Levels.{inner_seq, inner_expr, inner_term}
-use Rattle.pc_grammar.proofs.Follow.{Stops_chain, Stops_infix, Stops_expr, Stops_seq, kind_of_sign, kind_of_word, close_stops, then_stops, elseif_stops, else_stops, do_stops, end_stops, comma_stops, semicolon_stops, assign_stops, assign_no_cap, assign_no_colon, op_stops, item_stops, item_no_close, item_no_cap, to_infix, to_chain, to_expr, after_op, after_no_op, after_sign, after_no_sign, at_one, at_none, open_no_dot, next_semicolon, next_first, next_none, end_no_else, else_no_elseif, close_no_comma}
-use Rattle.pc_grammar.proofs.First.{First, Item, first_of, first_arm, first_item, first_seq, first_suffix}
-use Rattle.pc_grammar.proofs.Lists.{list_of, suffix_list, arm_list, item_list, exprs_back, suffixes_back, arms_back, items_back}
-use Rattle.pc_grammar.proofs.Spans.{over_closed, over_two, over_three, over_not, over_arm, over_local, over_assign, over_if, chain_span, terms_span, items_span}
-use Rattle.pc_grammar.proofs.Lifts.{atom_alone, term_alone, infix_alone, postfix_alone, many_none}
-use Rattle.pc_grammar.proofs.Steps.{name_atom, type_name_atom, atom_by, truth_atom, leaf_read, group_read, if_read, while_read, recover_read, arm_read, other_read, no_other_read, negation_read, becomes_read, args_read, dot_read, args_suffix, no_args_read, consume_read, one_more, not_term, consume_term, infix_read, chain_read, assign_read, args_list_read, seq_read, plain_read, local_read, local_item_read, cap_read, typed_read}
+use Rattle.pc_grammar.specs.{Spells.{IsNext, IsSome, is_atom, is_term, is_infix, is_place, span_from_to, over, Spells, SpellsTerms, SpellsMoreTerms, SpellsSuffix, SpellsSuffixes, SpellsArgs, SpellsMoreArgs, SpellsArm, SpellsMoreArms, SpellsOther, SpellsSeq, SpellsItems, SpellsMoreItems, SpellsItem}, Reading.{Parser, Inner, many, all, next_item, after, at, begins_suffix, begins_item, is_op, arm, arg_list, other, suffix, atom, term, item, infix_in, expr_in, seq_in, seq_of, infix_of, postfix, chain_of, inner, last_suffix, maybe_cap, if_}}
+use Rattle.pc_grammar.proofs.{Levels.{inner_seq, inner_expr, inner_term}, Follow.{Stops_chain, Stops_infix, Stops_expr, Stops_seq, kind_of_sign, kind_of_word, close_stops, then_stops, elseif_stops, else_stops, do_stops, end_stops, comma_stops, semicolon_stops, assign_stops, assign_no_cap, assign_no_colon, op_stops, item_stops, item_no_close, item_no_cap, to_infix, to_chain, to_expr, after_op, after_no_op, after_sign, after_no_sign, at_one, at_none, open_no_dot, next_semicolon, next_first, next_none, end_no_else, else_no_elseif, close_no_comma}, First.{First, Item, first_of, first_arm, first_item, first_seq, first_suffix}, Lists.{list_of, suffix_list, arm_list, item_list, exprs_back, suffixes_back, arms_back, items_back}, Spans.{over_closed, over_two, over_three, over_not, over_arm, over_local, over_assign, over_if, chain_span, terms_span, items_span}, Lifts.{atom_alone, term_alone, infix_alone, postfix_alone, many_none}, Steps.{name_atom, type_name_atom, atom_by, truth_atom, leaf_read, group_read, if_read, while_read, recover_read, arm_read, other_read, no_other_read, negation_read, becomes_read, args_read, dot_read, args_suffix, no_args_read, consume_read, one_more, not_term, consume_term, infix_read, chain_read, assign_read, args_list_read, seq_read, plain_read, local_read, local_item_read, cap_read, typed_read}}
 
 -- what reads an expression of its kind
 abbrev Own : ℕ → t.Expr → List Token → Token → List Token → Type 0

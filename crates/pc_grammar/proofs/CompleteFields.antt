@@ -1,23 +1,13 @@
 -- Fields that are spelled are read.
 use Rattle.std.proofs.Common.{◌≡◌, ℕ, zero, suc, ◌≤◌, Bool, true, false, List, [], ◌∷◌, ◌++◌, length, Option, Some, None, Ok, refl, sym, ap, ◌∙◌, subst, arith, append_assoc, length-append}
 use Rattle.pc_tree.specs.Tree as t
-use Rattle.pc_tree.specs.Depths.{depth}
-use Rattle.pc_tree.specs.Levels.{value_depth, fields_depth}
-use Rattle.pc_token.specs.declared.kinds.Token.{Token}
+use Rattle.pc_tree.specs.{Depths.depth, Levels.{value_depth, fields_depth}}
+use Rattle.pc_token.specs.{declared.kinds.Token.Token, Words.{is_sign, is_word, same_sign}}
 use Rattle.pc_token.specs.declared.kinds.TokenKind.TheVariants as k
 use Rattle.pc_token.specs.declared.words.Word.TheVariants as w
 use Rattle.pc_token.specs.declared.signs.Sign.TheVariants as s
-use Rattle.pc_token.specs.Words.{is_sign, is_word, same_sign}
-use Rattle.pc_grammar.specs.Spells.{op_of, cap_of, local_word, SpellsInfix, IsDoc, SpellsValue, SpellsField}
-use Rattle.pc_grammar.specs.Parts.{SpellsFields}
-use Rattle.pc_grammar.specs.Reading.{pure, peek, take_if, and_then, many, all, at, infix_, begins_suffix}
-use Rattle.pc_grammar.specs.ReadingFile.{is_doc, value, field, begins_field, some_field}
-use Rattle.pc_grammar.proofs.Follow.{kind_of_sign, kind_of_word, assign_no_cap, var_not_let, at_one, at_none}
-use Rattle.pc_grammar.proofs.First.{First}
-use Rattle.pc_grammar.proofs.Lifts.{many_none}
-use Rattle.pc_grammar.proofs.Steps.{name_read, one_more}
-use Rattle.pc_grammar.proofs.Complete.{complete, as_infix, two_parts, all_enough}
-use Rattle.pc_grammar.proofs.CompleteParams.{NoDoc, NoCap, NoSign, doc_reads, type_reads}
+use Rattle.pc_grammar.specs.{Spells.{op_of, cap_of, local_word, SpellsInfix, IsDoc, SpellsValue, SpellsField}, Parts.SpellsFields, Reading.{pure, peek, take_if, and_then, many, all, at, infix_, begins_suffix}, ReadingFile.{is_doc, value, field, begins_field, some_field}}
+use Rattle.pc_grammar.proofs.{Follow.{kind_of_sign, kind_of_word, assign_no_cap, var_not_let, at_one, at_none}, First.First, Lifts.many_none, Steps.{name_read, one_more}, Complete.{complete, as_infix, two_parts, all_enough}, CompleteParams.{NoDoc, NoCap, NoSign, doc_reads, type_reads}}
 
 -- no header, no type and no value continues with it
 pub record Quiet (y : Token) : Type 0 where

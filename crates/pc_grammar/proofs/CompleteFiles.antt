@@ -1,30 +1,15 @@
 -- Entities and files that are spelled are read.
 use Rattle.std.proofs.Common.{◌≡◌, ℕ, zero, suc, ◌≤◌, max, Bool, true, false, List, [], ◌∷◌, ◌++◌, length, Some, None, Ok, refl, sym, ap, ◌∙◌, subst, arith, cond, append_assoc, length-append, ◌⊎◌, inl, inr}
 use Rattle.pc_tree.specs.Tree as t
-use Rattle.pc_tree.specs.Depths.{file_depth}
-use Rattle.pc_tree.specs.Levels.{fields_depth, methods_depth, entities_depth}
-use Rattle.pc_tree.specs.declared.written_names.Name.{Name}
+use Rattle.pc_tree.specs.{Depths.file_depth, Levels.{fields_depth, methods_depth, entities_depth}, declared.written_names.Name.Name, declared.kinds.EntityKind.EntityKind, Kinds.{may_have_cap, may_have_fields, FieldsIf}}
 use Rattle.pc_tree.specs.declared.kinds.Op.TheVariants as o
-use Rattle.pc_tree.specs.declared.kinds.EntityKind.{EntityKind}
 use Rattle.pc_tree.specs.declared.kinds.EntityKind.TheVariants as kind
-use Rattle.pc_tree.specs.Kinds.{may_have_cap, may_have_fields, FieldsIf}
-use Rattle.pc_token.specs.declared.kinds.Token.{Token}
+use Rattle.pc_token.specs.{declared.kinds.Token.Token, Words.{is_sign, is_word, same_sign, same_word}}
 use Rattle.pc_token.specs.declared.kinds.TokenKind.TheVariants as k
 use Rattle.pc_token.specs.declared.words.Word.TheVariants as w
 use Rattle.pc_token.specs.declared.signs.Sign.TheVariants as s
-use Rattle.pc_token.specs.Words.{is_sign, is_word, same_sign, same_word}
-use Rattle.pc_grammar.specs.Spells.{op_of, cap_of, SpellsMoreNames, SpellsNames, SpellsAlone, SpellsBracketed, SpellsProvides, entity_word, SpellsEntity, SpellsFile}
-use Rattle.pc_grammar.specs.Parts.{SpellsFields, SpellsMoreEntities}
-use Rattle.pc_grammar.specs.Reading.{pure, ◌>>◌, peek, take_if, and_then, many, all, after, at, type_name, begins_suffix, begins_item}
-use Rattle.pc_grammar.specs.ReadingFile.{is_doc, is_end, type_names, provided, provides, entity_of, entity, begins_entity, begins_field, some_field, file}
-use Rattle.pc_grammar.proofs.Follow.{kind_of_sign, kind_of_word, after_sign, after_no_sign, at_one, at_none}
-use Rattle.pc_grammar.proofs.First.{First}
-use Rattle.pc_grammar.proofs.Lifts.{many_none}
-use Rattle.pc_grammar.proofs.Steps.{type_name_read, one_more}
-use Rattle.pc_grammar.proofs.Complete.{two_parts, all_enough}
-use Rattle.pc_grammar.proofs.CompleteParams.{NoDoc, doc_reads}
-use Rattle.pc_grammar.proofs.CompleteFields.{Quiet, Calm, to_quiet, to_doc, doc_first, fields_first, fields_read, NoField}
-use Rattle.pc_grammar.proofs.CompleteMethods.{Outer, to_calm, cap_if_reads, methods_first, methods_read, no_method, NoMethod}
+use Rattle.pc_grammar.specs.{Spells.{op_of, cap_of, SpellsMoreNames, SpellsNames, SpellsAlone, SpellsBracketed, SpellsProvides, entity_word, SpellsEntity, SpellsFile}, Parts.{SpellsFields, SpellsMoreEntities}, Reading.{pure, ◌>>◌, peek, take_if, and_then, many, all, after, at, type_name, begins_suffix, begins_item}, ReadingFile.{is_doc, is_end, type_names, provided, provides, entity_of, entity, begins_entity, begins_field, some_field, file}}
+use Rattle.pc_grammar.proofs.{Follow.{kind_of_sign, kind_of_word, after_sign, after_no_sign, at_one, at_none}, First.First, Lifts.many_none, Steps.{type_name_read, one_more}, Complete.{two_parts, all_enough}, CompleteParams.{NoDoc, doc_reads}, CompleteFields.{Quiet, Calm, to_quiet, to_doc, doc_first, fields_first, fields_read, NoField}, CompleteMethods.{Outer, to_calm, cap_if_reads, methods_first, methods_read, no_method, NoMethod}}
 
 -- ---- the traits of an entity
 

@@ -2,30 +2,14 @@
 use Rattle.std.proofs.Common.{◌≡◌, ℕ, zero, suc, ◌≤◌, Bool, true, false, ◌||◌, List, [], ◌∷◌, ◌++◌, length, Option, Some, None, Ok, refl, sym, ap, ◌∙◌, subst, arith, cond, append_assoc, length-append}
 use Rattle.pc_caps.specs.declared.capability.Cap.{Cap}
 use Rattle.pc_tree.specs.Tree as t
-use Rattle.pc_tree.specs.Depths.{seq_depth}
-use Rattle.pc_tree.specs.Levels.{body_depth, methods_depth}
-use Rattle.pc_tree.specs.declared.written_names.TypeRef.{TypeRef}
-use Rattle.pc_tree.specs.declared.kinds.EntityKind.{EntityKind}
-use Rattle.pc_tree.specs.declared.kinds.MethodWord.{MethodWord}
+use Rattle.pc_tree.specs.{Depths.seq_depth, Levels.{body_depth, methods_depth}, declared.written_names.TypeRef.TypeRef, declared.kinds.EntityKind.EntityKind, declared.kinds.MethodWord.MethodWord, Kinds.{is_abstract, may_stand, may_have_method_cap, CapIf, BodyUnless}}
 use Rattle.pc_tree.specs.declared.kinds.MethodWord.TheVariants as method
-use Rattle.pc_tree.specs.Kinds.{is_abstract, may_stand, may_have_method_cap, CapIf, BodyUnless}
-use Rattle.pc_token.specs.declared.kinds.Token.{Token}
-use Rattle.pc_token.specs.declared.kinds.TokenKind.{TokenKind}
+use Rattle.pc_token.specs.{declared.kinds.Token.Token, declared.kinds.TokenKind.TokenKind, Words.{is_sign, is_word, same_sign, same_word}}
 use Rattle.pc_token.specs.declared.kinds.TokenKind.TheVariants as k
 use Rattle.pc_token.specs.declared.words.Word.TheVariants as w
 use Rattle.pc_token.specs.declared.signs.Sign.TheVariants as s
-use Rattle.pc_token.specs.Words.{is_sign, is_word, same_sign, same_word}
-use Rattle.pc_grammar.specs.Spells.{op_of, cap_of, SpellsCap, SpellsReturns, SpellsBody, method_word, MayReturn, SpellsMethod}
-use Rattle.pc_grammar.specs.Parts.{SpellsMethods}
-use Rattle.pc_grammar.specs.Reading.{pure, peek, take_if, many, all, at, seq, begins_suffix, begins_item, kind_begins}
-use Rattle.pc_grammar.specs.ReadingFile.{kind_is_doc, is_doc, written_body, maybe_body, cap_if, method_result, method_of, word_in, begins_method, some_method, begins_field}
-use Rattle.pc_grammar.proofs.Follow.{Stops_seq, kind_of_sign, kind_of_word, at_one, at_none}
-use Rattle.pc_grammar.proofs.First.{First, first_seq}
-use Rattle.pc_grammar.proofs.Lifts.{many_none}
-use Rattle.pc_grammar.proofs.Steps.{name_read, one_more}
-use Rattle.pc_grammar.proofs.Complete.{complete_seq, two_parts, all_enough}
-use Rattle.pc_grammar.proofs.CompleteParams.{NoCap, doc_reads, cap_reads, returns_reads, params_reads}
-use Rattle.pc_grammar.proofs.CompleteFields.{Quiet, Calm, to_cap, to_sign, to_quiet, to_doc, doc_first}
+use Rattle.pc_grammar.specs.{Spells.{op_of, cap_of, SpellsCap, SpellsReturns, SpellsBody, method_word, MayReturn, SpellsMethod}, Parts.SpellsMethods, Reading.{pure, peek, take_if, many, all, at, seq, begins_suffix, begins_item, kind_begins}, ReadingFile.{kind_is_doc, is_doc, written_body, maybe_body, cap_if, method_result, method_of, word_in, begins_method, some_method, begins_field}}
+use Rattle.pc_grammar.proofs.{Follow.{Stops_seq, kind_of_sign, kind_of_word, at_one, at_none}, First.{First, first_seq}, Lifts.many_none, Steps.{name_read, one_more}, Complete.{complete_seq, two_parts, all_enough}, CompleteParams.{NoCap, doc_reads, cap_reads, returns_reads, params_reads}, CompleteFields.{Quiet, Calm, to_cap, to_sign, to_quiet, to_doc, doc_first}}
 
 -- what comes after a method: another one, an entity, or the end
 pub record Outer (y : Token) : Type 0 where

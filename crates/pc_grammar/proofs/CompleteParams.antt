@@ -1,20 +1,12 @@
 -- Docs, results and parameters that are spelled are read.
 use Rattle.std.proofs.Common.{◌≡◌, ℕ, zero, suc, ◌≤◌, Bool, true, false, List, [], ◌∷◌, ◌++◌, length, Option, Some, None, Ok, sym, ap, ◌∙◌, subst, arith, append_assoc, length-append}
 use Rattle.pc_caps.specs.declared.capability.Cap.{Cap}
-use Rattle.pc_tree.specs.declared.written_names.TypeRef.{TypeRef}
-use Rattle.pc_tree.specs.declared.file.ParamDef.{ParamDef}
-use Rattle.pc_token.specs.declared.kinds.Token.{Token}
+use Rattle.pc_tree.specs.{declared.written_names.TypeRef.TypeRef, declared.file.ParamDef.ParamDef}
+use Rattle.pc_token.specs.{declared.kinds.Token.Token, Words.is_sign}
 use Rattle.pc_token.specs.declared.kinds.TokenKind.TheVariants as k
 use Rattle.pc_token.specs.declared.signs.Sign.TheVariants as s
-use Rattle.pc_token.specs.Words.{is_sign}
-use Rattle.pc_grammar.specs.Spells.{cap_of, SpellsCap, SpellsType, IsDoc, SpellsHat, SpellsResult, SpellsReturns, SpellsParam, SpellsMoreParams, SpellsParamList, SpellsParams}
-use Rattle.pc_grammar.specs.Reading.{pure, peek, take_if, and_then, many, all, after, maybe_cap, written_type}
-use Rattle.pc_grammar.specs.ReadingFile.{is_doc, maybe_doc, maybe_hat, result_type, returns, param, param_list, params}
-use Rattle.pc_grammar.proofs.Follow.{kind_of_sign, after_sign, after_no_sign, close_no_comma}
-use Rattle.pc_grammar.proofs.First.{First}
-use Rattle.pc_grammar.proofs.Lifts.{many_none}
-use Rattle.pc_grammar.proofs.Steps.{name_read, type_name_read, cap_read, type_read, one_more}
-use Rattle.pc_grammar.proofs.Complete.{two_parts, one_token, all_enough}
+use Rattle.pc_grammar.specs.{Spells.{cap_of, SpellsCap, SpellsType, IsDoc, SpellsHat, SpellsResult, SpellsReturns, SpellsParam, SpellsMoreParams, SpellsParamList, SpellsParams}, Reading.{pure, peek, take_if, and_then, many, all, after, maybe_cap, written_type}, ReadingFile.{is_doc, maybe_doc, maybe_hat, result_type, returns, param, param_list, params}}
+use Rattle.pc_grammar.proofs.{Follow.{kind_of_sign, after_sign, after_no_sign, close_no_comma}, First.First, Lifts.many_none, Steps.{name_read, type_name_read, cap_read, type_read, one_more}, Complete.{two_parts, one_token, all_enough}}
 
 abbrev pub NoDoc : Token → Type 0
 NoDoc x = is_doc x ≡ false

@@ -1,22 +1,15 @@
 -- Atoms are explained if the sequences inside are.
 use Rattle.std.proofs.Common.{◌≡◌, ℕ, ◌-◌, ◌<◌, max, Bool, true, false, List, [], ◌∷◌, ◌++◌, Option, Some, None, refl, sym, ap, ap₂, ◌∙◌, subst, cond, append_assoc}
-use Rattle.pc_caps.specs.declared.span.Span.{Span}
+use Rattle.pc_base.specs.declared.span.Span.{Span}
 use Rattle.pc_caps.specs.declared.capability.Cap.{Cap}
 use Rattle.pc_tree.specs.Tree as t
-use Rattle.pc_tree.specs.Depths.{arm_depth, arms_depth, other_depth, seq_depth}
-use Rattle.pc_token.specs.declared.kinds.Token.{Token}
-use Rattle.pc_token.specs.declared.kinds.TokenKind.{TokenKind}
+use Rattle.pc_tree.specs.{Depths.{arm_depth, arms_depth, other_depth, seq_depth}, Parts.{arms_of, arm_span, seq_span}}
+use Rattle.pc_token.specs.{declared.kinds.Token.Token, declared.kinds.TokenKind.TokenKind, declared.words.Word.Word, Words.{is_sign, is_word}}
 use Rattle.pc_token.specs.declared.kinds.TokenKind.TheVariants as k
-use Rattle.pc_token.specs.declared.words.Word.{Word}
 use Rattle.pc_token.specs.declared.words.Word.TheVariants as w
 use Rattle.pc_token.specs.declared.signs.Sign.TheVariants as s
-use Rattle.pc_token.specs.Words.{is_sign, is_word}
-use Rattle.pc_grammar.specs.Spells.{span_from_to, over, SpellsCap, SpellsMoreArms}
-use Rattle.pc_grammar.specs.Reading.{Parser, pure, ◌>>=◌, ◌>>◌, peek, take_if, at, name, type_name, maybe_cap, group, arm, if_, while_, recover_, other, leaf, atom, atom_at}
-use Rattle.pc_grammar.proofs.Spans.{over_closed, over_two, over_three, over_arm, over_if}
-use Rattle.pc_grammar.proofs.Explained.{Fits, fits_zero, fits_max, fits_suc, fits_some, Explained, Then, Tok, Only, Listed, Inhabited, some_only, some_then, explained_bind, explained_weaker, explained_only, explained_refuse, explained_take, explained_deeper, explained_all}
-use Rattle.pc_grammar.proofs.ExplainedParts.{explained_cons, taken, opened, ends_nil, joined, begins_one, of_kind, word_is, sign_is, a_word, a_sign, some_word, AtomIn, ArmIn, OtherIn, SeqIn, NameAt, TypeNameAt, some_atom, some_seq, some_other, explained_name, explained_type_name, explained_cap}
-use Rattle.pc_tree.specs.Parts.{arms_of, arm_span, seq_span}
+use Rattle.pc_grammar.specs.{Spells.{span_from_to, over, SpellsCap, SpellsMoreArms}, Reading.{Parser, pure, ◌>>=◌, ◌>>◌, peek, take_if, at, name, type_name, maybe_cap, group, arm, if_, while_, recover_, other, leaf, atom, atom_at}}
+use Rattle.pc_grammar.proofs.{Spans.{over_closed, over_two, over_three, over_arm, over_if}, Explained.{Fits, fits_zero, fits_max, fits_suc, fits_some, Explained, Then, Tok, Only, Listed, Inhabited, some_only, some_then, explained_bind, explained_weaker, explained_only, explained_refuse, explained_take, explained_deeper, explained_all}, ExplainedParts.{explained_cons, taken, opened, ends_nil, joined, begins_one, of_kind, word_is, sign_is, a_word, a_sign, some_word, AtomIn, ArmIn, OtherIn, SeqIn, NameAt, TypeNameAt, some_atom, some_seq, some_other, explained_name, explained_type_name, explained_cap}}
 
 -- after a token at which the list continues
 at_by : (test : Token → Bool) (x : Token) (ts begin : List Token) (b : Bool) → test x ≡ b → ◌≡◌ {A = Option (List Token)} (cond b (Some (x ∷ ts)) None) (Some begin) → (begin ≡ x ∷ ts) × (test x ≡ true)

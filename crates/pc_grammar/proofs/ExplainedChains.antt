@@ -1,19 +1,12 @@
 -- Arguments, suffixes and chains of them are explained if the expressions inside are.
 use Rattle.std.proofs.Common.{◌≡◌, ℕ, ◌-◌, ◌<◌, Bool, true, false, not, ◌&&◌, List, [], ◌∷◌, ◌++◌, Option, Some, None, refl, sym, ap, ◌∙◌, subst, cond}
 use Rattle.pc_tree.specs.Tree as t
-use Rattle.pc_tree.specs.Depths.{depth, exprs_depth, suffix_depth, suffixes_depth}
-use Rattle.pc_token.specs.declared.kinds.Token.{Token}
+use Rattle.pc_tree.specs.{Depths.{depth, exprs_depth, suffix_depth, suffixes_depth}, Parts.{exprs_of, suffixes_of}}
+use Rattle.pc_token.specs.{declared.kinds.Token.Token, Words.is_sign}
 use Rattle.pc_token.specs.declared.kinds.TokenKind.TheVariants as k
 use Rattle.pc_token.specs.declared.signs.Sign.TheVariants as s
-use Rattle.pc_token.specs.Words.{is_sign}
-use Rattle.pc_grammar.specs.Spells.{span_from_to, over, is_atom, is_term, Spells, SpellsMoreArgs, SpellsSuffixes}
-use Rattle.pc_grammar.specs.Reading.{Parser, Inner, pure, ◌>>=◌, ◌>>◌, peek, take_if, all, after, at, begins_suffix, name, arg_list, args, suffix, postfix, atom, chain_of, last_suffix}
-use Rattle.pc_grammar.proofs.Lists.{suffixes_list}
-use Rattle.pc_grammar.proofs.Spans.{over_closed, chain_span}
-use Rattle.pc_grammar.proofs.Explained.{Fits, fits_zero, fits_max, fits_suc, fits_some, Explained, Then, Only, Listed, Inhabited, some_only, some_then, explained_bind, explained_weaker, explained_only, explained_refuse, explained_deeper, explained_all}
-use Rattle.pc_grammar.proofs.ExplainedParts.{explained_cons, taken, opened, ends_nil, joined, begins_one, of_kind, a_sign, AtomIn, TermIn, ExprIn, SuffixIn, ArgsIn, SeqIn, NameAt, some_args, some_suffix, explained_name}
-use Rattle.pc_grammar.proofs.ExplainedAtoms.{Closes, some_close, explained_close, closed, at_is, at_nil, explained_atom}
-use Rattle.pc_tree.specs.Parts.{exprs_of, suffixes_of}
+use Rattle.pc_grammar.specs.{Spells.{span_from_to, over, is_atom, is_term, Spells, SpellsMoreArgs, SpellsSuffixes}, Reading.{Parser, Inner, pure, ◌>>=◌, ◌>>◌, peek, take_if, all, after, at, begins_suffix, name, arg_list, args, suffix, postfix, atom, chain_of, last_suffix}}
+use Rattle.pc_grammar.proofs.{Lists.suffixes_list, Spans.{over_closed, chain_span}, Explained.{Fits, fits_zero, fits_max, fits_suc, fits_some, Explained, Then, Only, Listed, Inhabited, some_only, some_then, explained_bind, explained_weaker, explained_only, explained_refuse, explained_deeper, explained_all}, ExplainedParts.{explained_cons, taken, opened, ends_nil, joined, begins_one, of_kind, a_sign, AtomIn, TermIn, ExprIn, SuffixIn, ArgsIn, SeqIn, NameAt, some_args, some_suffix, explained_name}, ExplainedAtoms.{Closes, some_close, explained_close, closed, at_is, at_nil, explained_atom}}
 
 -- ---- where lists continue
 

@@ -1,25 +1,13 @@
 -- Terms, operators and assignments are explained if what is inside is.
 use Rattle.std.proofs.Common.{◌≡◌, ℕ, suc, ◌-◌, ◌<◌, Bool, true, false, ◌&&◌, List, [], ◌∷◌, ◌++◌, length, Option, Some, None, refl, sym, ap, ◌∙◌, subst, arith, cond, rules, ◌⊎◌, inl, inr}
 use denote.Enum.Bare.{same_true}
-use Rattle.pc_tree.specs.contracts.kinds.Op.{the_type as op_type}
-use Rattle.pc_tree.specs.declared.kinds.Op.{Op}
-use Rattle.pc_tree.specs.declared.written_names.Name.{Name}
+use Rattle.pc_tree.specs.{contracts.kinds.Op.the_type as op_type, declared.kinds.Op.Op, declared.written_names.Name.Name, Depths.{depth, exprs_depth}, Parts.exprs_of}
 use Rattle.pc_tree.specs.Tree as t
-use Rattle.pc_tree.specs.Depths.{depth, exprs_depth}
-use Rattle.pc_token.specs.declared.kinds.Token.{Token}
+use Rattle.pc_token.specs.{declared.kinds.Token.Token, Words.{is_sign, is_word}}
 use Rattle.pc_token.specs.declared.words.Word.TheVariants as w
 use Rattle.pc_token.specs.declared.signs.Sign.TheVariants as s
-use Rattle.pc_token.specs.Words.{is_sign, is_word}
-use Rattle.pc_grammar.specs.Spells.{op_of, no_span, span_from_to, over, is_term, is_infix, is_place, IsMore, Spells, SpellsTerms, SpellsMoreTerms}
-use Rattle.pc_grammar.specs.Parts.{same_op}
-use Rattle.pc_grammar.specs.Reading.{Inner, pure, ◌>>=◌, peek, after, is_op, is_this, name, consume, negation, postfix, term, infix_in, infix_with, infix_by, infix_of, first_expr, last_expr, becomes, expr_by, expr_in, expr_with}
-use Rattle.pc_grammar.proofs.Follow.{after_op}
-use Rattle.pc_grammar.proofs.Lists.{exprs_list}
-use Rattle.pc_grammar.proofs.Spans.{over_not, over_assign, terms_span}
-use Rattle.pc_grammar.proofs.Explained.{Fits, fits_zero, fits_max, fits_suc, fits_some, Explained, Then, Only, Listed, some_only, some_then, explained_bind, explained_weaker, explained_only, explained_refuse, explained_deeper, explained_more}
-use Rattle.pc_grammar.proofs.ExplainedParts.{explained_cons, taken, opened, ends_nil, joined, begins_one, TermIn, InfixIn, ExprIn, SeqIn, NameAt, some_term, some_expr, explained_name}
-use Rattle.pc_grammar.proofs.ExplainedChains.{after_is, explained_postfix}
-use Rattle.pc_tree.specs.Parts.{exprs_of}
+use Rattle.pc_grammar.specs.{Spells.{op_of, no_span, span_from_to, over, is_term, is_infix, is_place, IsMore, Spells, SpellsTerms, SpellsMoreTerms}, Parts.same_op, Reading.{Inner, pure, ◌>>=◌, peek, after, is_op, is_this, name, consume, negation, postfix, term, infix_in, infix_with, infix_by, infix_of, first_expr, last_expr, becomes, expr_by, expr_in, expr_with}}
+use Rattle.pc_grammar.proofs.{Follow.after_op, Lists.exprs_list, Spans.{over_not, over_assign, terms_span}, Explained.{Fits, fits_zero, fits_max, fits_suc, fits_some, Explained, Then, Only, Listed, some_only, some_then, explained_bind, explained_weaker, explained_only, explained_refuse, explained_deeper, explained_more}, ExplainedParts.{explained_cons, taken, opened, ends_nil, joined, begins_one, TermIn, InfixIn, ExprIn, SeqIn, NameAt, some_term, some_expr, explained_name}, ExplainedChains.{after_is, explained_postfix}}
 
 -- what may come inside is explained
 abbrev pub InnerAt : Bool → ℕ → Inner → Type 0

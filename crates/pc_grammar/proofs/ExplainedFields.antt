@@ -1,27 +1,13 @@
 -- Fields are explained.
 use Rattle.std.proofs.Common.{◌≡◌, ℕ, suc, Bool, true, false, List, [], ◌∷◌, ◌++◌, Option, Some, None, refl, sym, ap, ◌∙◌, subst, arith, cond}
 use Rattle.pc_tree.specs.Tree as t
-use Rattle.pc_tree.specs.Depths.{depth}
-use Rattle.pc_tree.specs.Levels.{value_depth, fields_depth}
-use Rattle.pc_tree.specs.declared.written_names.Name.{Name}
-use Rattle.pc_tree.specs.declared.written_names.TypeRef.{TypeRef}
-use Rattle.pc_tree.specs.declared.kinds.EntityKind.{EntityKind}
-use Rattle.pc_tree.specs.Kinds.{may_have_fields, FieldsIf}
-use Rattle.pc_token.specs.declared.kinds.Token.{Token}
+use Rattle.pc_tree.specs.{Depths.depth, Levels.{value_depth, fields_depth}, declared.written_names.Name.Name, declared.written_names.TypeRef.TypeRef, declared.kinds.EntityKind.EntityKind, Kinds.{may_have_fields, FieldsIf}}
+use Rattle.pc_token.specs.{declared.kinds.Token.Token, Words.{is_sign, is_word}}
 use Rattle.pc_token.specs.declared.kinds.TokenKind.TheVariants as k
 use Rattle.pc_token.specs.declared.words.Word.TheVariants as w
 use Rattle.pc_token.specs.declared.signs.Sign.TheVariants as s
-use Rattle.pc_token.specs.Words.{is_sign, is_word}
-use Rattle.pc_grammar.specs.Spells.{local_word, SpellsValue, SpellsField}
-use Rattle.pc_grammar.specs.Parts.{SpellsFields}
-use Rattle.pc_grammar.specs.Reading.{pure, ◌>>=◌, ◌>>◌, peek, take_if, all, at, name, infix_, inner}
-use Rattle.pc_grammar.specs.ReadingFile.{maybe_doc, value, field, begins_field, some_field, fields}
-use Rattle.pc_grammar.proofs.Explained.{Fits, fits_zero, fits_max, Explained, Then, Tok, Only, Listed, Inhabited, some_only, some_then, explained_bind, explained_weaker, explained_only, explained_refuse, explained_take, explained_all}
-use Rattle.pc_grammar.proofs.ExplainedParts.{explained_cons, taken, ends_nil, joined, begins_one, of_kind, a_word, some_word, InfixIn, NameAt, some_name, explained_name}
-use Rattle.pc_grammar.proofs.ExplainedAtoms.{at_is, at_nil}
-use Rattle.pc_grammar.proofs.ExplainedExprs.{explained_infix}
-use Rattle.pc_grammar.proofs.ExplainedSeqs.{explained_inner}
-use Rattle.pc_grammar.proofs.ExplainedParams.{DocAt, some_doc, explained_doc, ColonType, some_colon_type, explained_colon_type}
+use Rattle.pc_grammar.specs.{Spells.{local_word, SpellsValue, SpellsField}, Parts.SpellsFields, Reading.{pure, ◌>>=◌, ◌>>◌, peek, take_if, all, at, name, infix_, inner}, ReadingFile.{maybe_doc, value, field, begins_field, some_field, fields}}
+use Rattle.pc_grammar.proofs.{Explained.{Fits, fits_zero, fits_max, Explained, Then, Tok, Only, Listed, Inhabited, some_only, some_then, explained_bind, explained_weaker, explained_only, explained_refuse, explained_take, explained_all}, ExplainedParts.{explained_cons, taken, ends_nil, joined, begins_one, of_kind, a_word, some_word, InfixIn, NameAt, some_name, explained_name}, ExplainedAtoms.{at_is, at_nil}, ExplainedExprs.explained_infix, ExplainedSeqs.explained_inner, ExplainedParams.{DocAt, some_doc, explained_doc, ColonType, some_colon_type, explained_colon_type}}
 
 -- one level more, and room for it
 pub fits_up : (u : Bool) (n d : ℕ) → Fits u n d → Fits u (suc n) (suc d)

@@ -2,29 +2,14 @@
 use Rattle.std.proofs.Common.{◌≡◌, ℕ, suc, max, Bool, true, false, List, [], ◌∷◌, ◌++◌, Option, Some, refl, sym, ap, ap₂, ◌∙◌, subst, cond, append_assoc, ◌⊎◌, inl, inr}
 use Rattle.pc_caps.specs.declared.capability.Cap.{Cap}
 use Rattle.pc_tree.specs.Tree as t
-use Rattle.pc_tree.specs.Depths.{file_depth}
-use Rattle.pc_tree.specs.Levels.{fields_depth, methods_depth, entities_depth}
-use Rattle.pc_tree.specs.declared.written_names.Name.{Name}
-use Rattle.pc_tree.specs.declared.kinds.EntityKind.{EntityKind}
+use Rattle.pc_tree.specs.{Depths.file_depth, Levels.{fields_depth, methods_depth, entities_depth}, declared.written_names.Name.Name, declared.kinds.EntityKind.EntityKind, Kinds.may_have_cap}
 use Rattle.pc_tree.specs.declared.kinds.EntityKind.TheVariants as kind
-use Rattle.pc_tree.specs.Kinds.{may_have_cap}
-use Rattle.pc_token.specs.declared.kinds.Token.{Token}
-use Rattle.pc_token.specs.declared.kinds.TokenKind.{TokenKind}
+use Rattle.pc_token.specs.{declared.kinds.Token.Token, declared.kinds.TokenKind.TokenKind, Words.{is_sign, is_word}}
 use Rattle.pc_token.specs.declared.kinds.TokenKind.TheVariants as k
 use Rattle.pc_token.specs.declared.words.Word.TheVariants as w
 use Rattle.pc_token.specs.declared.signs.Sign.TheVariants as s
-use Rattle.pc_token.specs.Words.{is_sign, is_word}
-use Rattle.pc_grammar.specs.Spells.{SpellsMoreNames, SpellsNames, SpellsBracketed, SpellsAlone, SpellsProvides, entity_word, SpellsEntity, SpellsFile}
-use Rattle.pc_grammar.specs.Parts.{SpellsMoreEntities}
-use Rattle.pc_grammar.specs.Reading.{pure, refuse, ◌>>=◌, ◌>>◌, peek, take_if, at, after, type_name}
-use Rattle.pc_grammar.specs.ReadingFile.{kind_is_end, is_end, maybe_doc, type_names, provided, provides, entity_cap, fields, entity_of, entity, begins_entity, file}
-use Rattle.pc_grammar.proofs.Explained.{Fits, fits_zero, fits_max, Explained, Then, Tok, Only, Listed, Inhabited, some_only, some_then, explained_bind, explained_weaker, explained_only, explained_refuse, explained_take, explained_all}
-use Rattle.pc_grammar.proofs.ExplainedParts.{explained_cons, taken, opened, ends_nil, joined, begins_one, of_kind, a_word, some_word, a_sign, TypeNameAt, some_type_name, explained_type_name}
-use Rattle.pc_grammar.proofs.ExplainedAtoms.{Closes, some_close, explained_close, closed, at_is, at_nil}
-use Rattle.pc_grammar.proofs.ExplainedChains.{after_is}
-use Rattle.pc_grammar.proofs.ExplainedParams.{DocAt, some_doc, explained_doc}
-use Rattle.pc_grammar.proofs.ExplainedFields.{FieldsIn, some_fields, explained_fields}
-use Rattle.pc_grammar.proofs.ExplainedMethods.{CapAt, some_cap, explained_cap_if, MethodsIn, some_methods, explained_methods}
+use Rattle.pc_grammar.specs.{Spells.{SpellsMoreNames, SpellsNames, SpellsBracketed, SpellsAlone, SpellsProvides, entity_word, SpellsEntity, SpellsFile}, Parts.SpellsMoreEntities, Reading.{pure, refuse, ◌>>=◌, ◌>>◌, peek, take_if, at, after, type_name}, ReadingFile.{kind_is_end, is_end, maybe_doc, type_names, provided, provides, entity_cap, fields, entity_of, entity, begins_entity, file}}
+use Rattle.pc_grammar.proofs.{Explained.{Fits, fits_zero, fits_max, Explained, Then, Tok, Only, Listed, Inhabited, some_only, some_then, explained_bind, explained_weaker, explained_only, explained_refuse, explained_take, explained_all}, ExplainedParts.{explained_cons, taken, opened, ends_nil, joined, begins_one, of_kind, a_word, some_word, a_sign, TypeNameAt, some_type_name, explained_type_name}, ExplainedAtoms.{Closes, some_close, explained_close, closed, at_is, at_nil}, ExplainedChains.after_is, ExplainedParams.{DocAt, some_doc, explained_doc}, ExplainedFields.{FieldsIn, some_fields, explained_fields}, ExplainedMethods.{CapAt, some_cap, explained_cap_if, MethodsIn, some_methods, explained_methods}}
 
 -- ---- the traits of an entity
 

@@ -2,29 +2,13 @@
 use Rattle.std.proofs.Common.{◌≡◌, ℕ, suc, Bool, true, false, ◌||◌, List, [], ◌∷◌, ◌++◌, Option, Some, None, refl, sym, ap, ◌∙◌, subst, cond}
 use Rattle.pc_caps.specs.declared.capability.Cap.{Cap}
 use Rattle.pc_tree.specs.Tree as t
-use Rattle.pc_tree.specs.Depths.{seq_depth}
-use Rattle.pc_tree.specs.Levels.{body_depth, methods_depth}
-use Rattle.pc_tree.specs.declared.written_names.Name.{Name}
-use Rattle.pc_tree.specs.declared.written_names.TypeRef.{TypeRef}
-use Rattle.pc_tree.specs.declared.file.ParamDef.{ParamDef}
-use Rattle.pc_tree.specs.declared.kinds.EntityKind.{EntityKind}
-use Rattle.pc_tree.specs.declared.kinds.MethodWord.{MethodWord}
+use Rattle.pc_tree.specs.{Depths.seq_depth, Levels.{body_depth, methods_depth}, declared.written_names.Name.Name, declared.written_names.TypeRef.TypeRef, declared.file.ParamDef.ParamDef, declared.kinds.EntityKind.EntityKind, declared.kinds.MethodWord.MethodWord, Kinds.{is_abstract, may_stand, may_have_method_cap, CapIf, BodyUnless}}
 use Rattle.pc_tree.specs.declared.kinds.MethodWord.TheVariants as method
-use Rattle.pc_tree.specs.Kinds.{is_abstract, may_stand, may_have_method_cap, CapIf, BodyUnless}
-use Rattle.pc_token.specs.declared.kinds.Token.{Token}
+use Rattle.pc_token.specs.{declared.kinds.Token.Token, Words.{is_sign, is_word}}
 use Rattle.pc_token.specs.declared.kinds.TokenKind.TheVariants as k
 use Rattle.pc_token.specs.declared.signs.Sign.TheVariants as s
-use Rattle.pc_token.specs.Words.{is_sign, is_word}
-use Rattle.pc_grammar.specs.Spells.{SpellsCap, SpellsReturns, SpellsParams, SpellsBody, method_word, MayReturn, SpellsMethod}
-use Rattle.pc_grammar.specs.Parts.{SpellsMethods}
-use Rattle.pc_grammar.specs.Reading.{◌>>◌, pure, peek, take_if, all, at, name, seq, inner}
-use Rattle.pc_grammar.specs.ReadingFile.{maybe_doc, params, written_body, maybe_body, body, cap_if, method_cap, method_result, method_of, word_in, begins_method, some_method}
-use Rattle.pc_grammar.proofs.Explained.{Fits, fits_zero, fits_max, Explained, Then, Tok, Only, Listed, Inhabited, some_only, some_then, explained_bind, explained_weaker, explained_only, explained_refuse, explained_take, explained_all}
-use Rattle.pc_grammar.proofs.ExplainedParts.{ends_nil, joined, begins_one, of_kind, a_word, some_word, a_sign, some_sign, SeqIn, some_seq, NameAt, some_name, explained_name, explained_cap}
-use Rattle.pc_grammar.proofs.ExplainedAtoms.{at_is, at_nil}
-use Rattle.pc_grammar.proofs.ExplainedSeqs.{explained_seq, explained_inner}
-use Rattle.pc_grammar.proofs.ExplainedParams.{DocAt, some_doc, explained_doc, explained_returns, some_params, explained_params}
-use Rattle.pc_grammar.proofs.ExplainedFields.{fits_up}
+use Rattle.pc_grammar.specs.{Spells.{SpellsCap, SpellsReturns, SpellsParams, SpellsBody, method_word, MayReturn, SpellsMethod}, Parts.SpellsMethods, Reading.{◌>>◌, pure, peek, take_if, all, at, name, seq, inner}, ReadingFile.{maybe_doc, params, written_body, maybe_body, body, cap_if, method_cap, method_result, method_of, word_in, begins_method, some_method}}
+use Rattle.pc_grammar.proofs.{Explained.{Fits, fits_zero, fits_max, Explained, Then, Tok, Only, Listed, Inhabited, some_only, some_then, explained_bind, explained_weaker, explained_only, explained_refuse, explained_take, explained_all}, ExplainedParts.{ends_nil, joined, begins_one, of_kind, a_word, some_word, a_sign, some_sign, SeqIn, some_seq, NameAt, some_name, explained_name, explained_cap}, ExplainedAtoms.{at_is, at_nil}, ExplainedSeqs.{explained_seq, explained_inner}, ExplainedParams.{DocAt, some_doc, explained_doc, explained_returns, some_params, explained_params}, ExplainedFields.fits_up}
 
 -- [Cap], if one is allowed
 abbrev pub CapAt : Bool → Option Cap → List Token → Type 0

@@ -1,21 +1,12 @@
 -- Docs, results and parameters are explained.
 use Rattle.std.proofs.Common.{◌≡◌, Bool, true, false, List, [], ◌∷◌, ◌++◌, Option, Some, None, refl, sym, ap, ◌∙◌, subst, cond}
 use Rattle.pc_caps.specs.declared.capability.Cap.{Cap}
-use Rattle.pc_tree.specs.declared.written_names.Name.{Name}
-use Rattle.pc_tree.specs.declared.written_names.TypeRef.{TypeRef}
-use Rattle.pc_tree.specs.declared.file.ParamDef.{ParamDef}
-use Rattle.pc_token.specs.declared.kinds.Token.{Token}
-use Rattle.pc_token.specs.declared.kinds.TokenKind.{TokenKind}
+use Rattle.pc_tree.specs.{declared.written_names.Name.Name, declared.written_names.TypeRef.TypeRef, declared.file.ParamDef.ParamDef}
+use Rattle.pc_token.specs.{declared.kinds.Token.Token, declared.kinds.TokenKind.TokenKind, Words.is_sign}
 use Rattle.pc_token.specs.declared.kinds.TokenKind.TheVariants as k
 use Rattle.pc_token.specs.declared.signs.Sign.TheVariants as s
-use Rattle.pc_token.specs.Words.{is_sign}
-use Rattle.pc_grammar.specs.Spells.{SpellsCap, SpellsType, IsDoc, SpellsHat, SpellsResult, SpellsReturns, SpellsParam, SpellsMoreParams, SpellsParamList, SpellsParams}
-use Rattle.pc_grammar.specs.Reading.{pure, ◌>>=◌, ◌>>◌, peek, take_if, take_any, all, after, name, type_name, maybe_cap, written_type}
-use Rattle.pc_grammar.specs.ReadingFile.{kind_is_doc, is_doc, maybe_doc, maybe_hat, result_type, returns, param, param_list, params}
-use Rattle.pc_grammar.proofs.Explained.{Explained, Then, Tok, Only, Listed, Inhabited, some_only, some_then, explained_bind, explained_weaker, explained_only, explained_refuse, explained_take, explained_all}
-use Rattle.pc_grammar.proofs.ExplainedParts.{explained_cons, taken, ends_nil, joined, begins_one, of_kind, a_sign, some_sign, NameAt, TypeNameAt, some_name, some_type_name, some_type, explained_name, explained_type_name, explained_cap, explained_type}
-use Rattle.pc_grammar.proofs.ExplainedAtoms.{Closes, some_close, explained_close, closed}
-use Rattle.pc_grammar.proofs.ExplainedChains.{after_is}
+use Rattle.pc_grammar.specs.{Spells.{SpellsCap, SpellsType, IsDoc, SpellsHat, SpellsResult, SpellsReturns, SpellsParam, SpellsMoreParams, SpellsParamList, SpellsParams}, Reading.{pure, ◌>>=◌, ◌>>◌, peek, take_if, take_any, all, after, name, type_name, maybe_cap, written_type}, ReadingFile.{kind_is_doc, is_doc, maybe_doc, maybe_hat, result_type, returns, param, param_list, params}}
+use Rattle.pc_grammar.proofs.{Explained.{Explained, Then, Tok, Only, Listed, Inhabited, some_only, some_then, explained_bind, explained_weaker, explained_only, explained_refuse, explained_take, explained_all}, ExplainedParts.{explained_cons, taken, ends_nil, joined, begins_one, of_kind, a_sign, some_sign, NameAt, TypeNameAt, some_name, some_type_name, some_type, explained_name, explained_type_name, explained_cap, explained_type}, ExplainedAtoms.{Closes, some_close, explained_close, closed}, ExplainedChains.after_is}
 
 -- ---- docs
 

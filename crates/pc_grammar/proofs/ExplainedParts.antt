@@ -3,20 +3,11 @@ use Rattle.std.proofs.Common.{◌≡◌, ℕ, Bool, true, false, List, [], ◌�
 use denote.Enum.Bare.{same_false, sameb}
 use Rattle.pc_caps.specs.declared.capability.Cap.{Cap}
 use Rattle.pc_tree.specs.Tree as t
-use Rattle.pc_tree.specs.Depths.{depth, exprs_depth, suffix_depth, arm_depth, other_depth, seq_depth, item_depth}
-use Rattle.pc_tree.specs.declared.written_names.Name.{Name}
-use Rattle.pc_tree.specs.declared.written_names.TypeRef.{TypeRef}
-use Rattle.pc_token.specs.contracts.words.Word.{the_type as word_type}
-use Rattle.pc_token.specs.contracts.signs.Sign.{the_type as sign_type}
-use Rattle.pc_token.specs.declared.kinds.Token.{Token}
-use Rattle.pc_token.specs.declared.kinds.TokenKind.{TokenKind}
+use Rattle.pc_tree.specs.{Depths.{depth, exprs_depth, suffix_depth, arm_depth, other_depth, seq_depth, item_depth}, declared.written_names.Name.Name, declared.written_names.TypeRef.TypeRef}
+use Rattle.pc_token.specs.{contracts.words.Word.the_type as word_type, contracts.signs.Sign.the_type as sign_type, declared.kinds.Token.Token, declared.kinds.TokenKind.TokenKind, declared.words.Word.Word, declared.signs.Sign.Sign, Words.{is_sign, is_word, same_sign, same_word}}
 use Rattle.pc_token.specs.declared.kinds.TokenKind.TheVariants as k
-use Rattle.pc_token.specs.declared.words.Word.{Word}
-use Rattle.pc_token.specs.declared.signs.Sign.{Sign}
 use Rattle.pc_token.specs.declared.signs.Sign.TheVariants as s
-use Rattle.pc_token.specs.Words.{is_sign, is_word, same_sign, same_word}
-use Rattle.pc_grammar.specs.Spells.{cap_of, no_span, IsName, IsTypeName, SpellsCap, SpellsType, SpellsTyped, is_atom, is_term, is_infix, Spells, SpellsSuffix, SpellsArgs, SpellsArm, SpellsOther, SpellsSeq, SpellsItem}
-use Rattle.pc_grammar.specs.Reading.{ReadingOutcome, Parser, and_then, pure, ◌>>=◌, ◌>>◌, peek, take_if, name, name_at, type_name, type_name_at, cap_by, maybe_cap, written_type, maybe_type}
+use Rattle.pc_grammar.specs.{Spells.{cap_of, no_span, IsName, IsTypeName, SpellsCap, SpellsType, SpellsTyped, is_atom, is_term, is_infix, Spells, SpellsSuffix, SpellsArgs, SpellsArm, SpellsOther, SpellsSeq, SpellsItem}, Reading.{ReadingOutcome, Parser, and_then, pure, ◌>>=◌, ◌>>◌, peek, take_if, name, name_at, type_name, type_name_at, cap_by, maybe_cap, written_type, maybe_type}}
 use Rattle.pc_grammar.proofs.Explained.{Fits, fits_zero, Explained, Then, Tok, Only, Inhabited, some_tok, some_only, some_then, explained_bind, explained_weaker, explained_only, explained_refuse}
 
 -- ---- the first token is known

@@ -1,24 +1,14 @@
 -- Items and sequences are explained if what is inside is.
 use Rattle.std.proofs.Common.{◌≡◌, ℕ, zero, suc, ◌-◌, Bool, true, false, ◌&&◌, List, [], ◌∷◌, ◌++◌, length, Option, Some, None, Ok, Err, refl, sym, ap, ◌∙◌, subst, arith, cond, append_assoc, ◌⊎◌, inl, inr}
-use Rattle.pc_tree.specs.declared.written_names.Name.{Name}
-use Rattle.pc_tree.specs.declared.written_names.TypeRef.{TypeRef}
+use Rattle.pc_tree.specs.{declared.written_names.Name.Name, declared.written_names.TypeRef.TypeRef, Depths.{item_depth, items_depth}, Parts.items_of}
 use Rattle.pc_tree.specs.Tree as t
-use Rattle.pc_tree.specs.Depths.{item_depth, items_depth}
-use Rattle.pc_token.specs.declared.kinds.Token.{Token}
+use Rattle.pc_token.specs.{declared.kinds.Token.Token, Words.{is_sign, is_word}}
 use Rattle.pc_token.specs.declared.kinds.TokenKind.TheVariants as k
 use Rattle.pc_token.specs.declared.words.Word.TheVariants as w
 use Rattle.pc_token.specs.declared.signs.Sign.TheVariants as s
-use Rattle.pc_token.specs.Words.{is_sign, is_word}
-use Rattle.pc_grammar.specs.Spells.{local_word, no_span, span_from_to, over, IsNext, Spells, SpellsTyped, SpellsItems, SpellsMoreItems}
-use Rattle.pc_grammar.specs.Reading.{ReadingFault, unexpected, too_deep, ReadingOutcome, Parser, Inner, pure, ◌>>=◌, ◌>>◌, peek, take_if, next_item, begins_item, name, maybe_type, local, item, expr_in, seq_in, seq_with, seq_of, first_item, last_item, inner}
-use Rattle.pc_grammar.proofs.First.{First, Item, first_item as item_first}
-use Rattle.pc_grammar.proofs.Lists.{items_list}
-use Rattle.pc_grammar.proofs.Spans.{over_local, items_span}
-use Rattle.pc_grammar.proofs.Explained.{Fits, fits_zero, fits_max, shown, Explained, Then, Tok, Only, Listed, Inhabited, some_only, some_then, explained_bind, explained_weaker, explained_only, explained_refuse, explained_take, explained_all}
-use Rattle.pc_grammar.proofs.ExplainedParts.{explained_cons, opened, ends_nil, joined, begins_one, of_kind, a_sign, some_sign, a_name, ExprIn, ItemIn, SeqIn, NameAt, some_expr, some_item, explained_name, explained_typed}
-use Rattle.pc_grammar.proofs.ExplainedExprs.{ExplainedInner, InnerAt, explained_term, explained_expr}
-use Rattle.pc_lists.proofs.Bools.{first_true}
-use Rattle.pc_tree.specs.Parts.{items_of}
+use Rattle.pc_grammar.specs.{Spells.{local_word, no_span, span_from_to, over, IsNext, Spells, SpellsTyped, SpellsItems, SpellsMoreItems}, Reading.{ReadingFault, unexpected, too_deep, ReadingOutcome, Parser, Inner, pure, ◌>>=◌, ◌>>◌, peek, take_if, next_item, begins_item, name, maybe_type, local, item, expr_in, seq_in, seq_with, seq_of, first_item, last_item, inner}}
+use Rattle.pc_grammar.proofs.{First.{First, Item, first_item as item_first}, Lists.items_list, Spans.{over_local, items_span}, Explained.{Fits, fits_zero, fits_max, shown, Explained, Then, Tok, Only, Listed, Inhabited, some_only, some_then, explained_bind, explained_weaker, explained_only, explained_refuse, explained_take, explained_all}, ExplainedParts.{explained_cons, opened, ends_nil, joined, begins_one, of_kind, a_sign, some_sign, a_name, ExprIn, ItemIn, SeqIn, NameAt, some_expr, some_item, explained_name, explained_typed}, ExplainedExprs.{ExplainedInner, InnerAt, explained_term, explained_expr}}
+use Rattle.pc_base.proofs.Bools.{first_true}
 
 abbrev first_name : Token
 first_name = record { kind = k.Name []; first = true; span = no_span }

@@ -3,15 +3,9 @@ use Rattle.std.proofs.Common.{◌≡◌, ◌≤◌, List, [], ◌∷◌, ◌++�
 use Rattle.pc_tree.specs.Tree as t
 use Rattle.pc_tree.specs.Depths.{file_depth}
 use Rattle.pc_token.specs.declared.kinds.Token.{Token}
-use Rattle.pc_grammar.specs.Spells.{SpellsFile, level_limit}
-use Rattle.pc_grammar.specs.FileAnswers.{Begins, IsTooDeep, IsUnexpected}
-use Rattle.pc_grammar.specs.Parsing.{IsStopped}
-use Rattle.pc_grammar.specs.Reading.{unexpected, too_deep, ReadingOutcome}
-use Rattle.pc_grammar.specs.ReadingFile.{file}
+use Rattle.pc_grammar.specs.{Spells.{SpellsFile, level_limit}, FileAnswers.{Begins, IsTooDeep, IsUnexpected}, Parsing.IsStopped, Reading.{unexpected, too_deep, ReadingOutcome}, ReadingFile.file, Laws.{OneFileAnswer, AnswersFor, FileIsAnswered}}
 use Rattle.pc_grammar.specs.FileAnswers as answer
-use Rattle.pc_grammar.specs.Laws.{OneFileAnswer, AnswersFor, FileIsAnswered}
-use Rattle.pc_grammar.proofs.OneAnswer.{Front, of_deep, meet, stopped_deep}
-use Rattle.pc_grammar.proofs.FileRight.{file_is_read, file_is_refused, file_is_too_deep, file_is_one}
+use Rattle.pc_grammar.proofs.{OneAnswer.{Front, of_deep, meet, stopped_deep}, FileRight.{file_is_read, file_is_refused, file_is_too_deep, file_is_one}}
 
 -- ---- reading gives it
 

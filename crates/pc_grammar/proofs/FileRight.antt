@@ -3,19 +3,8 @@ use Rattle.std.proofs.Common.{◌≡◌, ℕ, suc, ◌≤◌, max, true, false, 
 use Rattle.pc_tree.specs.Tree as t
 use Rattle.pc_tree.specs.Depths.{file_depth}
 use Rattle.pc_token.specs.declared.kinds.Token.{Token}
-use Rattle.pc_grammar.specs.Spells.{SpellsFile}
-use Rattle.pc_grammar.specs.FileAnswers.{Begins}
-use Rattle.pc_grammar.specs.Parsing.{SpellsNoTree, IsOne, IsRead, IsRefused}
-use Rattle.pc_grammar.specs.Laws.{FileDeepRight}
-use Rattle.pc_grammar.specs.Reading.{unexpected, too_deep, ReadingOutcome}
-use Rattle.pc_grammar.specs.ReadingFile.{file}
-use Rattle.pc_grammar.proofs.Local.{rest_of}
-use Rattle.pc_grammar.proofs.LocalFile.{local_file}
-use Rattle.pc_grammar.proofs.AgreeFile.{file_agrees}
-use Rattle.pc_grammar.proofs.Explained.{Explained}
-use Rattle.pc_grammar.proofs.ExplainedFiles.{FileIn, explained_file}
-use Rattle.pc_grammar.proofs.CompleteFiles.{file_reads}
-use Rattle.pc_grammar.proofs.Right.{rest_with, ok_apart, fault_apart, deep_by}
+use Rattle.pc_grammar.specs.{Spells.SpellsFile, FileAnswers.Begins, Parsing.{SpellsNoTree, IsOne, IsRead, IsRefused}, Laws.FileDeepRight, Reading.{unexpected, too_deep, ReadingOutcome}, ReadingFile.file}
+use Rattle.pc_grammar.proofs.{Local.rest_of, LocalFile.local_file, AgreeFile.file_agrees, Explained.Explained, ExplainedFiles.{FileIn, explained_file}, CompleteFiles.file_reads, Right.{rest_with, ok_apart, fault_apart, deep_by}}
 
 -- a token at which reading stops continues no file within the levels
 not_within : (n : ℕ) (pre : List Token) (x : Token) (more others : List Token) (f : t.File) → rest_of (file n (pre ++ x ∷ more)) ≡ x ∷ more → SpellsFile f (pre ++ x ∷ others) → file_depth f ≤ suc n → ⊥

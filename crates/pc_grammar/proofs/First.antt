@@ -1,13 +1,10 @@
 -- What is spelled has a first token.
 use Rattle.std.proofs.Common.{◌≡◌, true, List, [], ◌∷◌, ◌++◌, ap, ◌∙◌}
 use Rattle.pc_tree.specs.Tree as t
-use Rattle.pc_token.specs.declared.kinds.Token.{Token}
-use Rattle.pc_token.specs.declared.words.Word.{Word}
+use Rattle.pc_token.specs.{declared.kinds.Token.Token, declared.words.Word.Word, Words.is_word}
 use Rattle.pc_token.specs.declared.words.Word.TheVariants as w
 use Rattle.pc_token.specs.declared.signs.Sign.TheVariants as s
-use Rattle.pc_token.specs.Words.{is_word}
-use Rattle.pc_grammar.specs.Spells.{local_word, truth_word, Spells, SpellsSuffix, SpellsArm, SpellsItem, SpellsSeq}
-use Rattle.pc_grammar.specs.Reading.{begins_item, begins_suffix}
+use Rattle.pc_grammar.specs.{Spells.{local_word, truth_word, Spells, SpellsSuffix, SpellsArm, SpellsItem, SpellsSeq}, Reading.{begins_item, begins_suffix}}
 use Rattle.pc_grammar.proofs.Follow.{Leads, kind_of_sign, kind_of_word, name_leads, type_name_leads, number_leads, text_leads, open_leads, this_leads, truth_leads, if_leads, while_leads, recover_leads, not_leads, consume_leads, local_item, dot_suffix, open_suffix}
 
 -- the first of these tokens has this property

@@ -1,21 +1,12 @@
 -- What a token is, and what it does not continue.
 use Rattle.std.proofs.Common.{◌≡◌, ℕ, Bool, true, false, ◌&&◌, not, List, ◌∷◌, Some, None, refl, ap, rules}
 use denote.Enum.Bare.{same_true, same_false, sameb}
-use Rattle.pc_token.specs.contracts.words.Word.{the_type as word_type}
-use Rattle.pc_token.specs.contracts.signs.Sign.{the_type as sign_type}
-use Rattle.pc_tree.specs.contracts.kinds.Op.{the_type as op_type}
-use Rattle.pc_tree.specs.declared.kinds.Op.{Op}
-use Rattle.pc_token.specs.declared.words.Word.{Word}
+use Rattle.pc_token.specs.{contracts.words.Word.the_type as word_type, contracts.signs.Sign.the_type as sign_type, declared.words.Word.Word, declared.signs.Sign.Sign, declared.kinds.Token.Token, declared.kinds.TokenKind.TokenKind, Words.{is_sign, is_word, kind_is_sign, kind_is_word, same_sign, same_word}}
+use Rattle.pc_tree.specs.{contracts.kinds.Op.the_type as op_type, declared.kinds.Op.Op}
 use Rattle.pc_token.specs.declared.words.Word.TheVariants as w
-use Rattle.pc_token.specs.declared.signs.Sign.{Sign}
 use Rattle.pc_token.specs.declared.signs.Sign.TheVariants as s
-use Rattle.pc_token.specs.declared.kinds.Token.{Token}
-use Rattle.pc_token.specs.declared.kinds.TokenKind.{TokenKind}
 use Rattle.pc_token.specs.declared.kinds.TokenKind.TheVariants as k
-use Rattle.pc_token.specs.Words.{is_sign, is_word, kind_is_sign, kind_is_word, same_sign, same_word}
-use Rattle.pc_grammar.specs.Spells.{op_of, kind_op, cap_of, kind_cap, local_word, truth_word}
-use Rattle.pc_grammar.specs.Parts.{same_op}
-use Rattle.pc_grammar.specs.Reading.{begins_suffix, begins_item, kind_begins, is_op, after, at, next_item}
+use Rattle.pc_grammar.specs.{Spells.{op_of, kind_op, cap_of, kind_cap, local_word, truth_word}, Parts.same_op, Reading.{begins_suffix, begins_item, kind_begins, is_op, after, at, next_item}}
 
 sign_kind : (s : Sign) (x : TokenKind) → kind_is_sign s x ≡ true → x ≡ k.Sign s
 unfolding same_sign

@@ -1,13 +1,11 @@
 -- A part alone is the larger part.
 use Rattle.std.proofs.Common.{◌≡◌, ℕ, zero, suc, Bool, true, false, List, [], ◌∷◌, length, Option, None, Ok, Err, refl, ap, ◌∙◌, subst}
 use Rattle.pc_tree.specs.Tree as t
-use Rattle.pc_token.specs.declared.kinds.Token.{Token}
+use Rattle.pc_token.specs.{declared.kinds.Token.Token, Words.{is_sign, is_word}}
 use Rattle.pc_token.specs.declared.kinds.TokenKind.TheVariants as k
 use Rattle.pc_token.specs.declared.words.Word.TheVariants as w
 use Rattle.pc_token.specs.declared.signs.Sign.TheVariants as s
-use Rattle.pc_token.specs.Words.{is_sign, is_word}
-use Rattle.pc_grammar.specs.Spells.{op_of}
-use Rattle.pc_grammar.specs.Reading.{ReadingOutcome, Parser, Inner, and_then, pure, ◌>>=◌, peek, many, many_step, all, at, begins_suffix, expr_in, expr_with, expr_by, infix_in, infix_with, infix_by, term, atom, atom_at, suffix, postfix, chain_of}
+use Rattle.pc_grammar.specs.{Spells.op_of, Reading.{ReadingOutcome, Parser, Inner, and_then, pure, ◌>>=◌, peek, many, many_step, all, at, begins_suffix, expr_in, expr_with, expr_by, infix_in, infix_with, infix_by, term, atom, atom_at, suffix, postfix, chain_of}}
 use Rattle.pc_grammar.proofs.Follow.{Stops_chain, kind_of_word}
 
 pub many_none : {A : Type 0} (next : List Token → Option (List Token)) (p : Parser A) (n : ℕ) (ts : List Token) → next ts ≡ None → many next p n ts ≡ Ok ([], ts)

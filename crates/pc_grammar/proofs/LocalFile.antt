@@ -1,18 +1,13 @@
 -- Each rule of files has one token of lookahead.
 use Rattle.std.proofs.Common.{ℕ, Bool}
-use Rattle.pc_tree.specs.declared.kinds.EntityKind.{EntityKind}
+use Rattle.pc_tree.specs.{declared.kinds.EntityKind.EntityKind, declared.kinds.MethodWord.MethodWord, Kinds.{is_abstract, may_have_cap, may_have_fields, may_have_method_cap}}
 use Rattle.pc_tree.specs.declared.kinds.EntityKind.TheVariants as kind
-use Rattle.pc_tree.specs.declared.kinds.MethodWord.{MethodWord}
 use Rattle.pc_tree.specs.declared.kinds.MethodWord.TheVariants as method
-use Rattle.pc_tree.specs.Kinds.{is_abstract, may_have_cap, may_have_fields, may_have_method_cap}
 use Rattle.pc_token.specs.declared.words.Word.TheVariants as w
 use Rattle.pc_token.specs.declared.signs.Sign.TheVariants as s
 use Rattle.pc_token.specs.Words.{is_sign, is_word}
-use Rattle.pc_grammar.specs.Reading.{after, at, type_name, inner}
-use Rattle.pc_grammar.specs.ReadingFile.{is_doc, maybe_doc, maybe_hat, result_type, returns, param, param_list, params, value, field, begins_field, some_field, fields, written_body, maybe_body, body, cap_if, method_result, method_of, word_in, begins_method, some_method, type_names, provided, provides, entity_of, entity, begins_entity, file}
-use Rattle.pc_grammar.proofs.Local.{Local, local_bind, local_pure, local_peek, local_take}
-use Rattle.pc_grammar.proofs.LocalLoops.{after_ahead, at_ahead, local_all}
-use Rattle.pc_grammar.proofs.LocalRules.{Good, good_bind, good_then, good_take, good_cond, good_refuse, local_cond, good_name, good_type_name, local_maybe_cap, good_written_type, good_inner, good_infix, good_seq}
+use Rattle.pc_grammar.specs.{Reading.{after, at, type_name, inner}, ReadingFile.{is_doc, maybe_doc, maybe_hat, result_type, returns, param, param_list, params, value, field, begins_field, some_field, fields, written_body, maybe_body, body, cap_if, method_result, method_of, word_in, begins_method, some_method, type_names, provided, provides, entity_of, entity, begins_entity, file}}
+use Rattle.pc_grammar.proofs.{Local.{Local, local_bind, local_pure, local_peek, local_take}, LocalLoops.{after_ahead, at_ahead, local_all}, LocalRules.{Good, good_bind, good_then, good_take, good_cond, good_refuse, local_cond, good_name, good_type_name, local_maybe_cap, good_written_type, good_inner, good_infix, good_seq}}
 
 local_maybe_doc : Local maybe_doc
 unfolding maybe_doc

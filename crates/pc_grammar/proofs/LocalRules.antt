@@ -1,21 +1,15 @@
 -- Each rule has one token of lookahead.
 use Rattle.std.proofs.Common.{◌≡◌, ℕ, zero, suc, ◌<◌, Bool, true, false, List, [], ◌∷◌, ◌++◌, length, Option, Some, None, Ok, Err, ap, ◌∙◌, arith, cond, length-append}
-use Rattle.pc_caps.specs.declared.span.Span.{Span}
+use Rattle.pc_base.specs.declared.span.Span.{Span}
 use Rattle.pc_caps.specs.declared.capability.Cap.{Cap}
 use Rattle.pc_tree.specs.Tree as t
 use Rattle.pc_tree.specs.declared.kinds.Op.{Op}
-use Rattle.pc_token.specs.declared.kinds.Token.{Token}
-use Rattle.pc_token.specs.declared.kinds.TokenKind.{TokenKind}
+use Rattle.pc_token.specs.{declared.kinds.Token.Token, declared.kinds.TokenKind.TokenKind, declared.words.Word.Word, Words.{is_sign, is_word}}
 use Rattle.pc_token.specs.declared.kinds.TokenKind.TheVariants as k
-use Rattle.pc_token.specs.declared.words.Word.{Word}
 use Rattle.pc_token.specs.declared.words.Word.TheVariants as w
 use Rattle.pc_token.specs.declared.signs.Sign.TheVariants as s
-use Rattle.pc_token.specs.Words.{is_sign, is_word}
-use Rattle.pc_grammar.specs.Spells.{op_of, cap_of}
-use Rattle.pc_grammar.specs.Reading.{unexpected, ReadingOutcome, Parser, Inner, refuse, ◌>>=◌, take_if, deeper, name, name_at, type_name, type_name_at, cap_by, maybe_cap, written_type, maybe_type, group, arm, if_, while_, recover_, other, leaf, atom, atom_at, args, arg_list, suffix, postfix, negation, consume, term, infix_in, infix_with, infix_by, becomes, assigns, expr_in, expr_with, local, item, seq_in, seq_with, inner, next_item, after, at, is_op, begins_suffix}
-use Rattle.pc_grammar.proofs.Lifts.{bind_ok}
-use Rattle.pc_grammar.proofs.Local.{rest_of, Local, Takes, local_bind, local_pure, local_refuse, local_peek, local_take, local_deeper}
-use Rattle.pc_grammar.proofs.LocalLoops.{after_ahead, at_ahead, item_ahead, local_all}
+use Rattle.pc_grammar.specs.{Spells.{op_of, cap_of}, Reading.{unexpected, ReadingOutcome, Parser, Inner, refuse, ◌>>=◌, take_if, deeper, name, name_at, type_name, type_name_at, cap_by, maybe_cap, written_type, maybe_type, group, arm, if_, while_, recover_, other, leaf, atom, atom_at, args, arg_list, suffix, postfix, negation, consume, term, infix_in, infix_with, infix_by, becomes, assigns, expr_in, expr_with, local, item, seq_in, seq_with, inner, next_item, after, at, is_op, begins_suffix}}
+use Rattle.pc_grammar.proofs.{Lifts.bind_ok, Local.{rest_of, Local, Takes, local_bind, local_pure, local_refuse, local_peek, local_take, local_deeper}, LocalLoops.{after_ahead, at_ahead, item_ahead, local_all}}
 
 pub record Good {A : Type 0} (p : Parser A) : Type 0 where
   pub local : Local p

@@ -1,12 +1,8 @@
 -- For a list of tokens at most one answer holds.
-use Rattle.std.proofs.Common.{◌≡◌, ℕ, List, [], ◌∷◌, ◌++◌, refl, sym, ap, ap₂, ◌∙◌, subst, append_assoc, append-nil}
-use Rattle.std.proofs.lemmas.List.{append_cancel_left}
+use Rattle.std.proofs.{Common.{◌≡◌, ℕ, List, [], ◌∷◌, ◌++◌, refl, sym, ap, ap₂, ◌∙◌, subst, append_assoc, append-nil}, lemmas.List.append_cancel_left}
 use Rattle.pc_tree.specs.Depths.{depth, seq_depth}
 use Rattle.pc_token.specs.declared.kinds.Token.{Token}
-use Rattle.pc_grammar.specs.Spells.{Spells, SpellsInfix, SpellsSeq}
-use Rattle.pc_grammar.specs.FileAnswers.{Begins, BeginsWithin, IsTooDeep}
-use Rattle.pc_grammar.specs.Parsing.{IsStopped, IsOne, IsRead, IsRefused, read, refused, deep, IsOneAnswer}
-use Rattle.pc_grammar.specs.Laws.{SeqOneAnswer, ExprOneAnswer, InfixOneAnswer}
+use Rattle.pc_grammar.specs.{Spells.{Spells, SpellsInfix, SpellsSeq}, FileAnswers.{Begins, BeginsWithin, IsTooDeep}, Parsing.{IsStopped, IsOne, IsRead, IsRefused, read, refused, deep, IsOneAnswer}, Laws.{SeqOneAnswer, ExprOneAnswer, InfixOneAnswer}}
 use Rattle.pc_grammar.proofs.Right.{seq_one, expr_one}
 
 -- with the next token it does not hold

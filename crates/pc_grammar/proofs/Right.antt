@@ -4,22 +4,8 @@ use Rattle.std.proofs.Common.{◌≡◌, ℕ, ◌≤◌, max, Bool, true, false,
 use Rattle.pc_tree.specs.Tree as t
 use Rattle.pc_tree.specs.Depths.{depth, seq_depth}
 use Rattle.pc_token.specs.declared.kinds.Token.{Token}
-use Rattle.pc_grammar.specs.Spells.{Spells, SpellsInfix, SpellsSeq}
-use Rattle.pc_grammar.specs.FileAnswers.{Begins, IsTooDeep}
-use Rattle.pc_grammar.specs.Parsing.{SpellsNoTree, IsOne}
-use Rattle.pc_grammar.specs.Reading.{ReadingFault, unexpected, too_deep, ReadingOutcome, Parser, seq, expr, infix_, inner}
-use Rattle.pc_grammar.specs.Laws.{ReadsRight, RefusesRight, DeepRight, SeqIsOne, ExprIsOne, SeqReadsRight, SeqRefusesRight, SeqDeepRight, ExprReadsRight, ExprRefusesRight, ExprDeepRight, InfixReadsRight, InfixRefusesRight, InfixDeepRight}
-use Rattle.pc_grammar.proofs.Follow.{last_stops, to_expr, to_infix}
-use Rattle.pc_grammar.proofs.Complete.{complete, complete_seq, as_expr, as_infix}
-use Rattle.pc_grammar.proofs.Local.{rest_of, with_rest, Local, cut}
-use Rattle.pc_grammar.proofs.LocalRules.{good_inner, good_seq, good_expr, good_infix}
-use Rattle.pc_grammar.proofs.Agree.{Agrees, inner_agrees, seq_agrees, expr_agrees, infix_agrees}
-use Rattle.pc_grammar.proofs.Steady.{the_end, Plain, Steady}
-use Rattle.pc_grammar.proofs.SteadyRules.{fine_inner, fine_seq, fine_expr, fine_infix}
-use Rattle.pc_grammar.proofs.Explained.{Fits, Explained, explained_weaker}
-use Rattle.pc_grammar.proofs.ExplainedParts.{InfixIn}
-use Rattle.pc_grammar.proofs.ExplainedExprs.{explained_expr, explained_infix}
-use Rattle.pc_grammar.proofs.ExplainedSeqs.{explained_inner, explained_seq}
+use Rattle.pc_grammar.specs.{Spells.{Spells, SpellsInfix, SpellsSeq}, FileAnswers.{Begins, IsTooDeep}, Parsing.{SpellsNoTree, IsOne}, Reading.{ReadingFault, unexpected, too_deep, ReadingOutcome, Parser, seq, expr, infix_, inner}, Laws.{ReadsRight, RefusesRight, DeepRight, SeqIsOne, ExprIsOne, SeqReadsRight, SeqRefusesRight, SeqDeepRight, ExprReadsRight, ExprRefusesRight, ExprDeepRight, InfixReadsRight, InfixRefusesRight, InfixDeepRight}}
+use Rattle.pc_grammar.proofs.{Follow.{last_stops, to_expr, to_infix}, Complete.{complete, complete_seq, as_expr, as_infix}, Local.{rest_of, with_rest, Local, cut}, LocalRules.{good_inner, good_seq, good_expr, good_infix}, Agree.{Agrees, inner_agrees, seq_agrees, expr_agrees, infix_agrees}, Steady.{the_end, Plain, Steady}, SteadyRules.{fine_inner, fine_seq, fine_expr, fine_infix}, Explained.{Fits, Explained, explained_weaker}, ExplainedParts.InfixIn, ExplainedExprs.{explained_expr, explained_infix}, ExplainedSeqs.{explained_inner, explained_seq}}
 
 pub rest_with : {A : Type 0} (ts : List Token) (o : ReadingOutcome A) → rest_of (with_rest ts o) ≡ ts
 rest_with ts (Ok r) = refl

@@ -1,15 +1,11 @@
 -- The spans of the parts give the span of the whole.
 use Rattle.std.proofs.Common.{◌≡◌, List, [], ◌∷◌, ◌++◌, refl, sym, ap, ap₂, ◌∙◌}
-use Rattle.pc_caps.specs.declared.span.Span.{Span}
+use Rattle.pc_base.specs.declared.span.Span.{Span}
 use Rattle.pc_tree.specs.Tree as t
-use Rattle.pc_tree.specs.declared.kinds.Op.{Op}
-use Rattle.pc_token.specs.declared.kinds.Token.{Token}
-use Rattle.pc_token.specs.declared.words.Word.{Word}
-use Rattle.pc_grammar.specs.Spells.{no_span, first_span, last_span, span_from_to, over, Spells, SpellsTerms, SpellsMoreTerms, SpellsSuffix, SpellsSuffixes, SpellsArm, SpellsSeq, SpellsItem, SpellsItems, SpellsMoreItems}
-use Rattle.pc_grammar.specs.Reading.{last_expr, last_suffix, last_item, first_expr, first_item}
-use Rattle.pc_grammar.proofs.First.{First, IsWord, first_append, first_of, first_item as item_first, first_seq, first_suffix, first_arm}
-use Rattle.pc_grammar.proofs.Lists.{list_of, suffix_list, item_list}
-use Rattle.pc_tree.specs.Parts.{suffix_span, arm_span, seq_span, item_span}
+use Rattle.pc_tree.specs.{declared.kinds.Op.Op, Parts.{suffix_span, arm_span, seq_span, item_span}}
+use Rattle.pc_token.specs.{declared.kinds.Token.Token, declared.words.Word.Word}
+use Rattle.pc_grammar.specs.{Spells.{no_span, first_span, last_span, span_from_to, over, Spells, SpellsTerms, SpellsMoreTerms, SpellsSuffix, SpellsSuffixes, SpellsArm, SpellsSeq, SpellsItem, SpellsItems, SpellsMoreItems}, Reading.{last_expr, last_suffix, last_item, first_expr, first_item}}
+use Rattle.pc_grammar.proofs.{First.{First, IsWord, first_append, first_of, first_item as item_first, first_seq, first_suffix, first_arm}, Lists.{list_of, suffix_list, item_list}}
 
 pub join_by : (a b c d : Span) → a.start ≡ c.start → b.end ≡ d.end → span_from_to a b ≡ span_from_to c d
 join_by a b c d e f = ap₂ (λ s t. record { start = s; end = t }) e f

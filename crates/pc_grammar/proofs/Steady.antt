@@ -3,11 +3,8 @@
 use Rattle.std.proofs.Common.{◌≡◌, ℕ, zero, suc, ◌+◌, ◌<◌, Bool, true, false, List, [], ◌∷◌, ◌++◌, length, Option, Some, None, Ok, Err, refl, sym, ap, ◌∙◌, subst, arith, cond, append_assoc, length-append, inl, inr}
 use Rattle.pc_token.specs.declared.kinds.Token.{Token}
 use Rattle.pc_token.specs.declared.kinds.TokenKind.TheVariants as k
-use Rattle.pc_grammar.specs.Spells.{no_span}
-use Rattle.pc_grammar.specs.Reading.{ReadingFault, unexpected, too_deep, ReadingOutcome, Parser, and_then, pure, refuse, ◌>>=◌, peek, take_if, many, many_step, all, deeper}
-use Rattle.pc_grammar.proofs.Lifts.{many_none}
-use Rattle.pc_grammar.proofs.Local.{rest_of, with_rest, Local, Takes, cut, local_bind, local_pure}
-use Rattle.pc_grammar.proofs.LocalLoops.{OneAhead, local_many, fuel}
+use Rattle.pc_grammar.specs.{Spells.no_span, Reading.{ReadingFault, unexpected, too_deep, ReadingOutcome, Parser, and_then, pure, refuse, ◌>>=◌, peek, take_if, many, many_step, all, deeper}}
+use Rattle.pc_grammar.proofs.{Lifts.many_none, Local.{rest_of, with_rest, Local, Takes, cut, local_bind, local_pure}, LocalLoops.{OneAhead, local_many, fuel}}
 
 abbrev pub the_end : Token
 the_end = record { kind = k.End; first = false; span = no_span }

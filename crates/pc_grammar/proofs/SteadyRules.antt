@@ -1,29 +1,16 @@
 -- The same for each rule.
 use Rattle.std.proofs.Common.{◌≡◌, ℕ, zero, suc, Bool, true, false, ◌&&◌, List, [], ◌∷◌, ◌++◌, length, Option, Some, None, Ok, Err, refl, sym, ap, ◌∙◌, subst, arith, cond}
-use Rattle.pc_caps.specs.declared.span.Span.{Span}
+use Rattle.pc_base.specs.declared.span.Span.{Span}
 use Rattle.pc_caps.specs.declared.capability.Cap.{Cap}
 use Rattle.pc_tree.specs.Tree as t
-use Rattle.pc_tree.specs.declared.kinds.Op.{Op}
-use Rattle.pc_token.specs.declared.kinds.Token.{Token}
-use Rattle.pc_token.specs.declared.kinds.TokenKind.{TokenKind}
+use Rattle.pc_tree.specs.{declared.kinds.Op.Op, Parts.{exprs_of, arms_of, arm_span, seq_span}}
+use Rattle.pc_token.specs.{declared.kinds.Token.Token, declared.kinds.TokenKind.TokenKind, declared.words.Word.Word, declared.signs.Sign.Sign, Words.{is_sign, is_word, kind_is_word, same_word}}
 use Rattle.pc_token.specs.declared.kinds.TokenKind.TheVariants as k
-use Rattle.pc_token.specs.declared.words.Word.{Word}
 use Rattle.pc_token.specs.declared.words.Word.TheVariants as w
-use Rattle.pc_token.specs.declared.signs.Sign.{Sign}
 use Rattle.pc_token.specs.declared.signs.Sign.TheVariants as s
-use Rattle.pc_token.specs.Words.{is_sign, is_word, kind_is_word, same_word}
-use Rattle.pc_grammar.specs.Spells.{op_of, cap_of, local_word, is_place, span_from_to}
-use Rattle.pc_grammar.specs.Reading.{ReadingOutcome, Parser, Inner, and_then, pure, refuse, ◌>>=◌, ◌>>◌, peek, take_if, deeper, all, name, name_at, type_name, type_name_at, cap_by, maybe_cap, written_type, maybe_type, typed_at, group, arm, if_, while_, recover_, other, other_at, leaf, atom, atom_at, args, arg_list, arg_list_at, suffix, suffix_at, postfix, negation, consume, term, term_at, infix_in, infix_with, infix_by, becomes, assigns, expr_by, expr_in, expr_with, local, item, item_at, seq_in, seq_with, inner, next_item, after, at, is_op, begins_suffix, begins_item, kind_begins}
-use Rattle.pc_grammar.proofs.Follow.{after_op}
-use Rattle.pc_grammar.proofs.Local.{rest_of, with_rest, Local, Takes, local_bind, local_pure, local_refuse, local_peek, local_take, local_deeper}
-use Rattle.pc_grammar.proofs.LocalLoops.{OneAhead, after_ahead, at_ahead, item_ahead, local_all, local_same}
-use Rattle.pc_grammar.proofs.LocalRules.{Good, GoodInner, good_bind, good_take, good_name_at, good_name, good_type_name_at, good_type_name, good_arm, good_atom_at, good_atom, good_item, good_suffix, good_term, good_infix, good_expr, good_inner}
-use Rattle.pc_grammar.proofs.Steady.{the_end, Plain, Steady, Enters, Ends, steady_bind, enters_bind, steady_pure, steady_refuse, steady_take, enters_take, steady_deeper, enters_deeper, steady_peek, enters_peek, ends_cond, ends_refuse, steady_all, all_enters}
-use Rattle.pc_grammar.proofs.ExplainedParts.{word_is, sign_is}
-use Rattle.pc_grammar.proofs.ExplainedAtoms.{at_is}
-use Rattle.pc_grammar.proofs.ExplainedChains.{after_is, open_suffix_is}
-use Rattle.pc_lists.proofs.Bools.{first_true}
-use Rattle.pc_tree.specs.Parts.{exprs_of, arms_of, arm_span, seq_span}
+use Rattle.pc_grammar.specs.{Spells.{op_of, cap_of, local_word, is_place, span_from_to}, Reading.{ReadingOutcome, Parser, Inner, and_then, pure, refuse, ◌>>=◌, ◌>>◌, peek, take_if, deeper, all, name, name_at, type_name, type_name_at, cap_by, maybe_cap, written_type, maybe_type, typed_at, group, arm, if_, while_, recover_, other, other_at, leaf, atom, atom_at, args, arg_list, arg_list_at, suffix, suffix_at, postfix, negation, consume, term, term_at, infix_in, infix_with, infix_by, becomes, assigns, expr_by, expr_in, expr_with, local, item, item_at, seq_in, seq_with, inner, next_item, after, at, is_op, begins_suffix, begins_item, kind_begins}}
+use Rattle.pc_grammar.proofs.{Follow.after_op, Local.{rest_of, with_rest, Local, Takes, local_bind, local_pure, local_refuse, local_peek, local_take, local_deeper}, LocalLoops.{OneAhead, after_ahead, at_ahead, item_ahead, local_all, local_same}, LocalRules.{Good, GoodInner, good_bind, good_take, good_name_at, good_name, good_type_name_at, good_type_name, good_arm, good_atom_at, good_atom, good_item, good_suffix, good_term, good_infix, good_expr, good_inner}, Steady.{the_end, Plain, Steady, Enters, Ends, steady_bind, enters_bind, steady_pure, steady_refuse, steady_take, enters_take, steady_deeper, enters_deeper, steady_peek, enters_peek, ends_cond, ends_refuse, steady_all, all_enters}, ExplainedParts.{word_is, sign_is}, ExplainedAtoms.at_is, ExplainedChains.{after_is, open_suffix_is}}
+use Rattle.pc_base.proofs.Bools.{first_true}
 
 -- ---- the end is no token of any kind
 

@@ -1,23 +1,15 @@
 -- A rule is read if its parts are.
 use Rattle.std.proofs.Common.{◌≡◌, ℕ, suc, ◌<◌, Bool, true, false, List, ◌∷◌, ◌++◌, Option, Some, None, Ok, refl, sym, ap, ◌∙◌}
-use Rattle.pc_caps.specs.declared.span.Span.{Span}
+use Rattle.pc_base.specs.declared.span.Span.{Span}
 use Rattle.pc_caps.specs.declared.capability.Cap.{Cap}
 use Rattle.pc_tree.specs.Tree as t
-use Rattle.pc_tree.specs.declared.written_names.Name.{Name}
-use Rattle.pc_tree.specs.declared.written_names.TypeRef.{TypeRef}
-use Rattle.pc_tree.specs.declared.kinds.Op.{Op}
-use Rattle.pc_token.specs.declared.kinds.Token.{Token}
-use Rattle.pc_token.specs.declared.kinds.TokenKind.{TokenKind}
+use Rattle.pc_tree.specs.{declared.written_names.Name.Name, declared.written_names.TypeRef.TypeRef, declared.kinds.Op.Op, Parts.{exprs_of, arms_of, arm_span, seq_span}}
+use Rattle.pc_token.specs.{declared.kinds.Token.Token, declared.kinds.TokenKind.TokenKind, declared.words.Word.Word, Words.{is_sign, is_word}}
 use Rattle.pc_token.specs.declared.kinds.TokenKind.TheVariants as k
-use Rattle.pc_token.specs.declared.words.Word.{Word}
 use Rattle.pc_token.specs.declared.words.Word.TheVariants as w
 use Rattle.pc_token.specs.declared.signs.Sign.TheVariants as s
-use Rattle.pc_token.specs.Words.{is_sign, is_word}
-use Rattle.pc_grammar.specs.Spells.{op_of, cap_of, local_word, truth_word, span_from_to, is_place, IsName, IsTypeName, SpellsCap, SpellsType, SpellsTyped}
-use Rattle.pc_grammar.specs.Reading.{ReadingOutcome, Parser, Inner, and_then, pure, ◌>>=◌, peek, take_if, many, all, next_item, after, at, is_op, begins_suffix, name, type_name, cap_by, maybe_cap, written_type, maybe_type, group, arm, if_, while_, recover_, leaf, negation, consume, becomes, args, arg_list, other, suffix, atom, atom_at, term, local, item, seq_with, seq_of, infix_in, infix_with, infix_of, expr_in, expr_with, postfix, chain_of}
-use Rattle.pc_grammar.proofs.Levels.{one_deeper}
-use Rattle.pc_grammar.proofs.Follow.{Leads, kind_of_word, consume_not_not, var_not_let}
-use Rattle.pc_tree.specs.Parts.{exprs_of, arms_of, arm_span, seq_span}
+use Rattle.pc_grammar.specs.{Spells.{op_of, cap_of, local_word, truth_word, span_from_to, is_place, IsName, IsTypeName, SpellsCap, SpellsType, SpellsTyped}, Reading.{ReadingOutcome, Parser, Inner, and_then, pure, ◌>>=◌, peek, take_if, many, all, next_item, after, at, is_op, begins_suffix, name, type_name, cap_by, maybe_cap, written_type, maybe_type, group, arm, if_, while_, recover_, leaf, negation, consume, becomes, args, arg_list, other, suffix, atom, atom_at, term, local, item, seq_with, seq_of, infix_in, infix_with, infix_of, expr_in, expr_with, postfix, chain_of}}
+use Rattle.pc_grammar.proofs.{Levels.one_deeper, Follow.{Leads, kind_of_word, consume_not_not, var_not_let}}
 
 -- ---- names, capabilities and types
 

@@ -2,7 +2,7 @@
 use Rattle.std.specs.Prelude.{◌≡◌, ℕ, suc, List, [], ◌∷◌, Ok, Err}
 use Rattle.pc_tree.specs.Depths.{depth, seq_depth, file_depth}
 use Rattle.pc_token.specs.declared.kinds.Token.{Token}
-use Rattle.pc_grammar.specs.{Spells.Spells, Spells.SpellsInfix, Spells.SpellsSeq, Spells.SpellsFile, ReadingFile.file, FileAnswers.IsTooDeep, FileAnswers.FileAnswer, FileAnswers.IsFileAnswer, Parts.inner_levels, Parsing.IsOne, Parsing.IsOneAnswer, Parsing.IsRead, Parsing.IsRefused, Reading.ReadingOutcome, Reading.Parser, Reading.unexpected, Reading.too_deep, Reading.seq, Reading.expr, Reading.infix_}
+use Rattle.pc_grammar.specs.{Spells.{Spells, SpellsInfix, SpellsSeq, SpellsFile}, ReadingFile.file, FileAnswers.{IsTooDeep, FileAnswer, IsFileAnswer}, Parts.inner_levels, Parsing.{IsOne, IsOneAnswer, IsRead, IsRefused}, Reading.{ReadingOutcome, Parser, unexpected, too_deep, seq, expr, infix_}}
 use Rattle.pc_tree.specs.Tree as t
 use Rattle.pc_grammar.specs.FileAnswers as answer
 

@@ -1,9 +1,10 @@
 -- How the grammar is read from the left, with one token of lookahead.
 use Rattle.std.specs.Prelude.{ℕ, zero, suc, Bool, true, false, not, ◌&&◌, ◌||◌, List, [], ◌∷◌, length, Option, Some, None, Result, Ok, Err, if◌then◌else◌}
-use Rattle.pc_caps.specs.{declared.span.Span.Span, declared.capability.Cap.Cap}
-use Rattle.pc_tree.specs.{declared.written_names.Name.Name, declared.written_names.TypeRef.TypeRef, declared.kinds.Op.Op, Parts.exprs_of, Parts.suffixes_of, Parts.arms_of, Parts.items_of, Parts.suffix_span, Parts.arm_span, Parts.seq_span, Parts.item_span}
-use Rattle.pc_token.specs.{declared.kinds.Token.Token, declared.kinds.TokenKind.TokenKind, declared.words.Word.Word, Words.is_sign, Words.is_word}
-use Rattle.pc_grammar.specs.{Spells.op_of, Spells.cap_of, Spells.local_word, Spells.no_span, Spells.span_from_to, Spells.is_place, Parts.same_op}
+use Rattle.pc_base.specs.declared.span.Span.{Span}
+use Rattle.pc_caps.specs.declared.capability.Cap.{Cap}
+use Rattle.pc_tree.specs.{declared.written_names.Name.Name, declared.written_names.TypeRef.TypeRef, declared.kinds.Op.Op, Parts.{exprs_of, suffixes_of, arms_of, items_of, suffix_span, arm_span, seq_span, item_span}}
+use Rattle.pc_token.specs.{declared.kinds.Token.Token, declared.kinds.TokenKind.TokenKind, declared.words.Word.Word, Words.{is_sign, is_word}}
+use Rattle.pc_grammar.specs.{Spells.{op_of, cap_of, local_word, no_span, span_from_to, is_place}, Parts.same_op}
 use Rattle.pc_tree.specs.Tree as t
 use Rattle.pc_token.specs.declared.kinds.TokenKind.TheVariants as k
 use Rattle.pc_token.specs.declared.words.Word.TheVariants as w

@@ -3,25 +3,12 @@ use Rattle.std.proofs.Common.{◌≡◌, ℕ, suc, true, List, [], ◌∷◌, �
 use Rattle.pc_tree.specs.Tree as t
 use Rattle.pc_tree.specs.Depths.{depth, seq_depth, file_depth}
 use Rattle.pc_token.specs.declared.kinds.Token.{Token}
-use Rattle.pc_grammar.specs.Spells.{Spells, SpellsInfix, SpellsSeq, SpellsFile, level_limit}
-use Rattle.pc_grammar.specs.FileAnswers.{IsTooDeep, FileAnswer, IsFileAnswer}
-use Rattle.pc_grammar.specs.Parsing.{ParseAnswer, read, refused, deep, IsAnswer, IsOneAnswer}
+use Rattle.pc_grammar.specs.{Spells.{Spells, SpellsInfix, SpellsSeq, SpellsFile, level_limit}, FileAnswers.{IsTooDeep, FileAnswer, IsFileAnswer}, Parsing.{ParseAnswer, read, refused, deep, IsAnswer, IsOneAnswer}, Laws.{ReadsRight, RefusesRight, DeepRight, AnswersFor}, Reading.{unexpected, too_deep, ReadingOutcome, Parser, seq, expr, infix_, inner}, ReadingFile.file}
 use Rattle.pc_grammar.specs.FileAnswers as answer
-use Rattle.pc_grammar.specs.Laws.{ReadsRight, RefusesRight, DeepRight, AnswersFor}
-use Rattle.pc_grammar.specs.Reading.{unexpected, too_deep, ReadingOutcome, Parser, seq, expr, infix_, inner}
-use Rattle.pc_grammar.specs.ReadingFile.{file}
-use Rattle.pc_grammar.proofs.Steady.{the_end}
-use Rattle.pc_grammar.proofs.Right.{seq_reads, seq_refuses, seq_deep, expr_reads, expr_refuses, expr_deep, infix_reads, infix_refuses, infix_deep}
-use Rattle.pc_grammar.proofs.OneAnswer.{seq_answer, expr_answer, infix_answer}
-use Rattle.pc_grammar.proofs.FileRight.{file_is_too_deep}
-use Rattle.pc_grammar.proofs.FileAnswers.{file_is_answered, one_file_answer}
+use Rattle.pc_grammar.proofs.{Steady.the_end, Right.{seq_reads, seq_refuses, seq_deep, expr_reads, expr_refuses, expr_deep, infix_reads, infix_refuses, infix_deep}, OneAnswer.{seq_answer, expr_answer, infix_answer}, FileRight.file_is_too_deep, FileAnswers.{file_is_answered, one_file_answer}}
 use Rattle.pc_expr.specs.Gives.{EndsWithEnd}
-use Rattle.pc_grammar_total.specs.Levels.{opens_level, OpensLevel}
-use Rattle.pc_grammar_total.specs.Laws.{left, HasOneAnswer, DeepOpens, SeqHasOneAnswer, SeqDeepOpens, SeqOpenersGoDeep, ExprHasOneAnswer, ExprDeepOpens, ExprOpenersGoDeep, InfixHasOneAnswer, InfixDeepOpens, InfixOpenersGoDeep, FileHasOneAnswer, FileDeepOpens, FileOpenersGoDeep}
-use Rattle.pc_grammar_total.proofs.Left.{Left, Leaves}
-use Rattle.pc_grammar_total.proofs.LeftRules.{leaves_seq, leaves_expr, leaves_infix, leaves_inner}
-use Rattle.pc_grammar_total.proofs.LeftFile.{Named, names_file}
-use Rattle.pc_grammar_total.proofs.Openers.{an_open, with_body, deep_in, seq_deep_in, infix_deep_in, file_deep_in}
+use Rattle.pc_grammar_total.specs.{Levels.{opens_level, OpensLevel}, Laws.{left, HasOneAnswer, DeepOpens, SeqHasOneAnswer, SeqDeepOpens, SeqOpenersGoDeep, ExprHasOneAnswer, ExprDeepOpens, ExprOpenersGoDeep, InfixHasOneAnswer, InfixDeepOpens, InfixOpenersGoDeep, FileHasOneAnswer, FileDeepOpens, FileOpenersGoDeep}}
+use Rattle.pc_grammar_total.proofs.{Left.{Left, Leaves}, LeftRules.{leaves_seq, leaves_expr, leaves_infix, leaves_inner}, LeftFile.{Named, names_file}, Openers.{an_open, with_body, deep_in, seq_deep_in, infix_deep_in, file_deep_in}}
 
 -- ---- a list to which an `End` is appended
 

@@ -4,8 +4,7 @@ use Rattle.std.proofs.Common.{◌≡◌, ◌≢◌, ℕ, zero, suc, Bool, true, 
 use Rattle.pc_token.specs.declared.kinds.Token.{Token}
 use Rattle.pc_token.specs.declared.kinds.TokenKind.TheVariants as k
 use Rattle.pc_grammar.specs.Reading.{unexpected, too_deep, ReadingOutcome, Parser, and_then, pure, refuse, ◌>>=◌, peek, take_if, take_any, deeper, many, many_step, all, at, after}
-use Rattle.pc_grammar.proofs.ExplainedAtoms.{at_is}
-use Rattle.pc_grammar.proofs.ExplainedChains.{after_is}
+use Rattle.pc_grammar.proofs.{ExplainedAtoms.at_is, ExplainedChains.after_is}
 use Rattle.pc_expr.specs.Gives.{EndsWithEnd}
 use Rattle.pc_grammar_total.specs.Levels.{opens_level, OpensLevel}
 

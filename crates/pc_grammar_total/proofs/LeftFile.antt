@@ -1,24 +1,17 @@
 -- The same for each rule of files, except for the file's own `End`.
 use Rattle.std.proofs.Common.{◌≡◌, ◌≢◌, ℕ, Bool, true, false, List, [], ◌∷◌, Ok, Err, cond}
-use Rattle.pc_tree.specs.declared.kinds.EntityKind.{EntityKind}
+use Rattle.pc_tree.specs.{declared.kinds.EntityKind.EntityKind, declared.kinds.MethodWord.MethodWord, Kinds.{is_abstract, may_have_cap, may_have_fields, may_have_method_cap}}
 use Rattle.pc_tree.specs.declared.kinds.EntityKind.TheVariants as kind
-use Rattle.pc_tree.specs.declared.kinds.MethodWord.{MethodWord}
 use Rattle.pc_tree.specs.declared.kinds.MethodWord.TheVariants as method
-use Rattle.pc_tree.specs.Kinds.{is_abstract, may_have_cap, may_have_fields, may_have_method_cap}
-use Rattle.pc_token.specs.declared.kinds.Token.{Token}
-use Rattle.pc_token.specs.declared.kinds.TokenKind.{TokenKind}
+use Rattle.pc_token.specs.{declared.kinds.Token.Token, declared.kinds.TokenKind.TokenKind, Words.{is_sign, is_word}}
 use Rattle.pc_token.specs.declared.kinds.TokenKind.TheVariants as k
 use Rattle.pc_token.specs.declared.words.Word.TheVariants as w
 use Rattle.pc_token.specs.declared.signs.Sign.TheVariants as s
-use Rattle.pc_token.specs.Words.{is_sign, is_word}
-use Rattle.pc_grammar.specs.Spells.{local_word, method_word, entity_word}
-use Rattle.pc_grammar.specs.Reading.{unexpected, too_deep, ReadingOutcome, Parser, and_then, pure, ◌>>=◌, ◌>>◌, take_if, type_name, inner}
-use Rattle.pc_grammar.specs.ReadingFile.{kind_is_doc, is_doc, is_end, maybe_doc, maybe_hat, result_type, returns, param, param_list, params, value, field, begins_field, some_field, fields, written_body, maybe_body, body, cap_if, method_result, method_of, word_in, begins_method, some_method, type_names, provided, provides, entity_of, entity, begins_entity, file}
+use Rattle.pc_grammar.specs.{Spells.{local_word, method_word, entity_word}, Reading.{unexpected, too_deep, ReadingOutcome, Parser, and_then, pure, ◌>>=◌, ◌>>◌, take_if, type_name, inner}, ReadingFile.{kind_is_doc, is_doc, is_end, maybe_doc, maybe_hat, result_type, returns, param, param_list, params, value, field, begins_field, some_field, fields, written_body, maybe_body, body, cap_if, method_result, method_of, word_in, begins_method, some_method, type_names, provided, provides, entity_of, entity, begins_entity, file}}
 use Rattle.pc_expr.proofs.Ends.{is_sign_not_end}
 use Rattle.pc_expr.specs.Gives.{EndsWithEnd}
 use Rattle.pc_grammar_total.specs.Levels.{OpensLevel}
-use Rattle.pc_grammar_total.proofs.Left.{Left, Leaves, NotEnd, anywhere, leaves_pure, leaves_refuse, leaves_bind, at_bind, leaves_peek, leaves_cond, at_cond, at_any, leaves_all_at, leaves_all_after}
-use Rattle.pc_grammar_total.proofs.LeftRules.{leaves_sign, leaves_word, leaves_name, leaves_type_name, leaves_maybe_cap, leaves_written_type, leaves_infix, leaves_seq, leaves_inner}
+use Rattle.pc_grammar_total.proofs.{Left.{Left, Leaves, NotEnd, anywhere, leaves_pure, leaves_refuse, leaves_bind, at_bind, leaves_peek, leaves_cond, at_cond, at_any, leaves_all_at, leaves_all_after}, LeftRules.{leaves_sign, leaves_word, leaves_name, leaves_type_name, leaves_maybe_cap, leaves_written_type, leaves_infix, leaves_seq, leaves_inner}}
 
 doc_apart : (kk : TokenKind) → kind_is_doc kk ≡ true → kk ≢ k.End
 doc_apart k.Doc is end = cc end

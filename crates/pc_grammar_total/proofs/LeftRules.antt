@@ -1,22 +1,16 @@
 -- The same for each rule of sequences and expressions.
 use Rattle.std.proofs.Common.{◌≡◌, ◌≢◌, ℕ, zero, suc, Bool, true, false, ◌&&◌, List, [], ◌∷◌, Option, Some, None, refl, subst, ap, sym, ◌∙◌, cond}
-use Rattle.pc_caps.specs.declared.span.Span.{Span}
+use Rattle.pc_base.specs.declared.span.Span.{Span}
 use Rattle.pc_caps.specs.declared.capability.Cap.{Cap}
-use Rattle.pc_lists.proofs.Bools.{first_true}
+use Rattle.pc_base.proofs.Bools.{first_true}
 use Rattle.pc_tree.specs.Tree as t
 use Rattle.pc_tree.specs.declared.kinds.Op.{Op}
-use Rattle.pc_token.specs.declared.kinds.Token.{Token}
-use Rattle.pc_token.specs.declared.kinds.TokenKind.{TokenKind}
+use Rattle.pc_token.specs.{declared.kinds.Token.Token, declared.kinds.TokenKind.TokenKind, declared.words.Word.Word, declared.signs.Sign.Sign, Words.{is_sign, is_word}}
 use Rattle.pc_token.specs.declared.kinds.TokenKind.TheVariants as k
-use Rattle.pc_token.specs.declared.words.Word.{Word}
 use Rattle.pc_token.specs.declared.words.Word.TheVariants as w
-use Rattle.pc_token.specs.declared.signs.Sign.{Sign}
 use Rattle.pc_token.specs.declared.signs.Sign.TheVariants as s
-use Rattle.pc_token.specs.Words.{is_sign, is_word}
-use Rattle.pc_grammar.specs.Spells.{op_of, cap_of, local_word, is_place}
-use Rattle.pc_grammar.specs.Reading.{Parser, Inner, peek, take_if, name, name_at, type_name, type_name_at, cap_by, maybe_cap, written_type, maybe_type, group, arm, if_, while_, recover_, other, leaf, atom, atom_at, args, arg_list, suffix, postfix, negation, consume, term, infix_in, infix_with, infix_by, becomes, assigns, expr_in, expr_with, local, item, seq_in, seq_with, inner, next_item, begins_item, is_op, begins_suffix}
-use Rattle.pc_grammar.proofs.Follow.{kind_of_sign, kind_of_word}
-use Rattle.pc_grammar.proofs.ExplainedChains.{open_suffix_is}
+use Rattle.pc_grammar.specs.{Spells.{op_of, cap_of, local_word, is_place}, Reading.{Parser, Inner, peek, take_if, name, name_at, type_name, type_name_at, cap_by, maybe_cap, written_type, maybe_type, group, arm, if_, while_, recover_, other, leaf, atom, atom_at, args, arg_list, suffix, postfix, negation, consume, term, infix_in, infix_with, infix_by, becomes, assigns, expr_in, expr_with, local, item, seq_in, seq_with, inner, next_item, begins_item, is_op, begins_suffix}}
+use Rattle.pc_grammar.proofs.{Follow.{kind_of_sign, kind_of_word}, ExplainedChains.open_suffix_is}
 use Rattle.pc_expr.proofs.Ends.{is_sign_not_end, is_word_not_end, is_op_not_end, is_cap_not_end}
 use Rattle.pc_expr.specs.Gives.{EndsWithEnd}
 use Rattle.pc_grammar_total.specs.Levels.{kind_opens, opens_level}

@@ -1,16 +1,11 @@
 -- Each token that opens a level is too deep in some list: after as many `(` as there are levels.
 use Rattle.std.proofs.Common.{◌≡◌, ℕ, zero, suc, true, false, List, [], ◌∷◌, Err, refl}
-use Rattle.pc_token.specs.declared.kinds.Token.{Token}
-use Rattle.pc_token.specs.declared.kinds.TokenKind.{TokenKind}
+use Rattle.pc_token.specs.{declared.kinds.Token.Token, declared.kinds.TokenKind.TokenKind, Words.{is_sign, is_word, same_sign, same_word}}
 use Rattle.pc_token.specs.declared.kinds.TokenKind.TheVariants as k
 use Rattle.pc_token.specs.declared.words.Word.TheVariants as w
 use Rattle.pc_token.specs.declared.signs.Sign.TheVariants as s
-use Rattle.pc_token.specs.Words.{is_sign, is_word, same_sign, same_word}
-use Rattle.pc_grammar.specs.Spells.{op_of, cap_of}
-use Rattle.pc_grammar.specs.Reading.{ReadingFault, too_deep, Inner, peek, take_if, deeper, all, many, at, begins_suffix, name, group, if_, while_, recover_, atom, postfix, negation, term, chain_of, infix_in, infix_with, becomes, expr_in, expr_with, item, seq_in, seq_with, inner, seq, expr, infix_, type_name, maybe_cap}
-use Rattle.pc_grammar.specs.ReadingFile.{is_doc, file, maybe_doc, entity, entity_of, provides, begins_field, begins_method, some_method, method_of, params, param_list, returns, written_body}
-use Rattle.pc_grammar.proofs.Follow.{Leads, open_leads, name_leads, if_leads, while_leads, recover_leads, not_leads}
-use Rattle.pc_grammar.proofs.ExplainedParts.{of_kind}
+use Rattle.pc_grammar.specs.{Spells.{op_of, cap_of}, Reading.{ReadingFault, too_deep, Inner, peek, take_if, deeper, all, many, at, begins_suffix, name, group, if_, while_, recover_, atom, postfix, negation, term, chain_of, infix_in, infix_with, becomes, expr_in, expr_with, item, seq_in, seq_with, inner, seq, expr, infix_, type_name, maybe_cap}, ReadingFile.{is_doc, file, maybe_doc, entity, entity_of, provides, begins_field, begins_method, some_method, method_of, params, param_list, returns, written_body}}
+use Rattle.pc_grammar.proofs.{Follow.{Leads, open_leads, name_leads, if_leads, while_leads, recover_leads, not_leads}, ExplainedParts.of_kind}
 use Rattle.pc_grammar_total.specs.Levels.{kind_opens, opens_level}
 
 abbrev pub an_open : Token

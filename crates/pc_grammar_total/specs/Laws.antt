@@ -2,7 +2,7 @@
 use Rattle.std.specs.Prelude.{◌≡◌, ℕ, suc, true, List, ◌∷◌}
 use Rattle.pc_tree.specs.Depths.{depth, seq_depth, file_depth}
 use Rattle.pc_token.specs.declared.kinds.Token.{Token}
-use Rattle.pc_grammar.specs.{Spells.Spells, Spells.SpellsInfix, Spells.SpellsSeq, Spells.SpellsFile, Spells.level_limit, FileAnswers.IsTooDeep, FileAnswers.FileAnswer, FileAnswers.IsFileAnswer, Parsing.ParseAnswer, Parsing.read, Parsing.refused, Parsing.deep, Parsing.IsAnswer}
+use Rattle.pc_grammar.specs.{Spells.{Spells, SpellsInfix, SpellsSeq, SpellsFile, level_limit}, FileAnswers.{IsTooDeep, FileAnswer, IsFileAnswer}, Parsing.{ParseAnswer, read, refused, deep, IsAnswer}}
 use Rattle.pc_expr.specs.Gives.{EndsWithEnd}
 use Rattle.pc_grammar_total.specs.Levels.{opens_level, OpensLevel}
 

@@ -1,16 +1,8 @@
 -- What the map of the entries has at an address, and where the fields of entries lie.
-use Rattle.std.proofs.Common.{◌≡◌, ℕ, zero, suc, ◌+◌, ◌≤◌, ◌⊎◌, inl, inr, Bool, true, false, cond, List, [], ◌∷◌, ◌++◌, slice_get, Option, Some, None, refl, sym, ap, ◌∙◌, arith}
-use Rattle.std.specs.Ordering.{eq_by_cmp}
-use Rattle.std.specs.FinMap.{get}
-use Rattle.std.proofs.lemmas.Bool.{true≢false}
-use Rattle.std.proofs.lemmas.Option.{none-some, same_Some}
-use Rattle.std.proofs.lemmas.Map.Views.{tells_apart}
-use Rattle.pc_heap.specs.declared.value.Address.{Address}
-use Rattle.pc_heap.specs.Objects.{Object, address_cmp}
-use Rattle.pc_heap.specs.declared.entry.Entry.{Entry}
+use Rattle.std.proofs.{Common.{◌≡◌, ℕ, zero, suc, ◌+◌, ◌≤◌, ◌⊎◌, inl, inr, Bool, true, false, cond, List, [], ◌∷◌, ◌++◌, slice_get, Option, Some, None, refl, sym, ap, ◌∙◌, arith}, lemmas.Bool.true≢false, lemmas.Option.{none-some, same_Some}, lemmas.Map.Views.tells_apart}
+use Rattle.std.specs.{Ordering.eq_by_cmp, FinMap.get}
+use Rattle.pc_heap.specs.{declared.value.Address.Address, Objects.{Object, address_cmp}, declared.entry.Entry.Entry, Rows.{RowList, numbers_of}, Entries.{Items, object_of, listed, objects_of, at_number, entry_found, Laid}}
 use Rattle.pc_heap.proofs.Maps.{addresses_total, exact_addresses, get_at, entry_at, tied_own}
-use Rattle.pc_heap.specs.Rows.{RowList, numbers_of}
-use Rattle.pc_heap.specs.Entries.{Items, object_of, listed, objects_of, at_number, entry_found, Laid}
 
 pub other_than : (q a : Address) → eq_by_cmp address_cmp q a ≡ false → q ≡ a → ⊥
 other_than q a e same = true≢false (sym (tied_own addresses_total a) ∙ ap (λ b. eq_by_cmp address_cmp b a) (sym same) ∙ e)

@@ -1,13 +1,7 @@
 -- How lists begin.
-use Rattle.std.proofs.Common.{◌≡◌, ℕ, ◌<◌, Bool, true, false, not, ◌&&◌, nat_eq, ◌==◌, if◌then◌else◌, List, [], ◌∷◌, ◌++◌, length, take, drop, Option, Some, None, refl, sym, ap, ap₂, ◌∙◌, arith}
-use Rattle.std.proofs.lemmas.Bool.Decides.{Decides-eqb, nat_tests}
-use Rattle.std.proofs.lemmas.Slice.Eq.{bytes_eq-Decides}
-use Rattle.std.proofs.lemmas.Option.{same_Some, none-some}
-use Rattle.std.proofs.lemmas.List.{append-nil, append_assoc, take-append-drop}
-use Rattle.std.proofs.lemmas.List.Folds.{concat-append}
-use Rattle.pc_lists.proofs.Bools.{true_false}
-use Rattle.std.specs.List.{concat}
-use Rattle.std.specs.Str.{bytes_eq}
+use Rattle.std.proofs.{Common.{◌≡◌, ℕ, ◌<◌, Bool, true, false, not, ◌&&◌, nat_eq, ◌==◌, if◌then◌else◌, List, [], ◌∷◌, ◌++◌, length, take, drop, Option, Some, None, refl, sym, ap, ap₂, ◌∙◌, arith}, lemmas.Bool.Decides.{Decides-eqb, nat_tests}, lemmas.Slice.Eq.bytes_eq-Decides, lemmas.Option.{same_Some, none-some}, lemmas.List.{append-nil, append_assoc, take-append-drop}, lemmas.List.Folds.concat-append}
+use Rattle.pc_base.proofs.Bools.{true_false}
+use Rattle.std.specs.{List.concat, Str.bytes_eq}
 
 -- What follows the first list in the second, if the second begins with the first.
 abbrev pub stripped : List ℕ → List ℕ → Option (List ℕ)

@@ -1,10 +1,7 @@
 -- Parts of a list, and single values in it.
-use Rattle.std.proofs.Common.{◌≡◌, ℕ, zero, suc, ◌+◌, ◌-◌, ◌<◌, ◌≤◌, List, [], ◌∷◌, ◌++◌, length, take, drop, set, slice_get, Some, None, refl, sym, ap, ◌∙◌, arith, length-append, length-take, length-drop}
-use Rattle.std.proofs.lemmas.List.{take-set-le, drop-set-lt, drop-set-add, take-append-le, drop-append-le}
-use Rattle.std.proofs.lemmas.Option.{slice_get_past}
-use Rattle.std.proofs.Math.Seq.{take-set-lt, drop-append_seam, take-length}
+use Rattle.std.proofs.{Common.{◌≡◌, ℕ, zero, suc, ◌+◌, ◌-◌, ◌<◌, ◌≤◌, List, [], ◌∷◌, ◌++◌, length, take, drop, set, slice_get, Some, None, refl, sym, ap, ◌∙◌, arith, length-append, length-take, length-drop}, lemmas.List.{take-set-le, drop-set-lt, drop-set-add, take-append-le, drop-append-le}, lemmas.Option.slice_get_past, Math.Seq.{take-set-lt, drop-append_seam, take-length}}
 use Rattle.pc_arena.proofs.Chunked.{get_within}
-use Rattle.pc_lists.proofs.Gets.{get_behind}
+use Rattle.pc_base.proofs.Gets.{get_behind}
 
 module _ {X : Type 0} where
   -- n values from m on

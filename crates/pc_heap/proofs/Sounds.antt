@@ -1,26 +1,9 @@
 -- A heap stays sound, and its objects afterwards.
-use Rattle.std.proofs.Common.{◌≡◌, ℕ, zero, suc, ◌+◌, ◌^◌, ◌<◌, ◌≤◌, ◌⊎◌, inl, inr, Bool, true, false, cond, List, [], ◌∷◌, ◌++◌, length, set, slice_get, replicate, Option, Some, None, refl, sym, ap, ◌∙◌, subst, arith, length-append, length-set}
-use Rattle.std.proofs.lemmas.List.{length-replicate}
-use Rattle.std.specs.Prelude.{nat_eq}
-use Rattle.std.specs.Ordering.{eq_by_cmp}
-use Rattle.std.specs.FinMap.{empty, get, insert, len, same_map, get-insert, get-empty, len-empty}
-use Rattle.std.proofs.lemmas.Bool.{eq-eqb, eqb-true}
-use Rattle.std.proofs.lemmas.Option.{none-some, same_Some, slice_get_within, slice_get_past}
-use Rattle.std.proofs.lemmas.Map.Views.{tells_apart}
-use Rattle.pc_heap.specs.declared.value.Address.{Address}
-use Rattle.pc_heap.specs.Objects.{Object, address_cmp, ObjectMap, made_by, new_object, with_field, with_value}
-use Rattle.pc_heap.specs.Parts.{object_in, field_in}
-use Rattle.pc_heap.specs.declared.value.Value.{Value}
-use Rattle.pc_heap.specs.declared.entry.Entry.{Entry}
-use Rattle.pc_heap.specs.Heaps.{Room, object_limit}
-use Rattle.pc_heap.proofs.Maps.{addresses_total, exact_addresses, get_at}
-use Rattle.pc_heap.proofs.Counts.{made_more, made_same, len_more, len_same, made_few}
-use Rattle.pc_lists.specs.Counts.{one_if}
-use Rattle.pc_heap.specs.Rows.{RowList, numbers_of}
-use Rattle.pc_heap.specs.Entries.{Items, object_of, objects_of, at_number, entry_found, Laid}
-use Rattle.pc_heap.specs.Inside.{Ready, Sound}
-use Rattle.pc_heap.proofs.Finds.{other_than, object_found, found_is, entry_is, laid_within, laid_apart, laid_more}
-use Rattle.pc_heap.proofs.Slices.{part, get_part, set_before, set_after, set_inside, part_append, part_new, get_old, get_new, get_far}
+use Rattle.std.proofs.{Common.{◌≡◌, ℕ, zero, suc, ◌+◌, ◌^◌, ◌<◌, ◌≤◌, ◌⊎◌, inl, inr, Bool, true, false, cond, List, [], ◌∷◌, ◌++◌, length, set, slice_get, replicate, Option, Some, None, refl, sym, ap, ◌∙◌, subst, arith, length-append, length-set}, lemmas.List.length-replicate, lemmas.Bool.{eq-eqb, eqb-true}, lemmas.Option.{none-some, same_Some, slice_get_within, slice_get_past}, lemmas.Map.Views.tells_apart}
+use Rattle.std.specs.{Prelude.nat_eq, Ordering.eq_by_cmp, FinMap.{empty, get, insert, len, same_map, get-insert, get-empty, len-empty}}
+use Rattle.pc_heap.specs.{declared.value.Address.Address, Objects.{Object, address_cmp, ObjectMap, made_by, new_object, with_field, with_value}, Parts.{object_in, field_in}, declared.value.Value.Value, declared.entry.Entry.Entry, Heaps.{Room, object_limit}, Rows.{RowList, numbers_of}, Entries.{Items, object_of, objects_of, at_number, entry_found, Laid}, Inside.{Ready, Sound}}
+use Rattle.pc_heap.proofs.{Maps.{addresses_total, exact_addresses, get_at}, Counts.{made_more, made_same, len_more, len_same, made_few}, Finds.{other_than, object_found, found_is, entry_is, laid_within, laid_apart, laid_more}, Slices.{part, get_part, set_before, set_after, set_inside, part_append, part_new, get_old, get_new, get_far}}
+use Rattle.pc_base.specs.Counts.{one_if}
 
 which : (b : Bool) → (b ≡ true) ⊎ (b ≡ false)
 which true = inl refl

@@ -1,6 +1,5 @@
 -- Addresses and objects as pairs, by which they can be keys and values of finite maps.
-use Rattle.std.specs.Prelude.{ℕ, List, Option, refl}
-use Rattle.std.specs.Coded.{Coded, code_by, coded×, coded_list, coded_ℕ, coded_option}
+use Rattle.std.specs.{Prelude.{ℕ, List, Option, refl}, Coded.{Coded, code_by, coded×, coded_list, coded_ℕ, coded_option}}
 use Rattle.pc_heap.specs.{declared.value.Value.Value, declared.value.Address.Address, Objects.Object}
 use Rattle.pc_heap.specs.contracts.value.Value as value
 

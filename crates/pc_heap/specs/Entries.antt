@@ -1,7 +1,6 @@
 -- Entries of objects, and the objects that they represent.
-use Rattle.std.specs.Prelude.{◌≡◌, ℕ, ◌+◌, List, [], ◌∷◌, map, take, drop, Option, Some, None, slice_get}
-use Rattle.std.specs.FinMap.{from_entries}
-use Rattle.pc_heap.specs.{declared.value.Address.Address, Objects.Object, Objects.ObjectMap, declared.value.Value.Value, declared.entry.Entry.Entry, Rows.RowList, Rows.numbers_of}
+use Rattle.std.specs.{Prelude.{◌≡◌, ℕ, ◌+◌, List, [], ◌∷◌, map, take, drop, Option, Some, None, slice_get}, FinMap.from_entries}
+use Rattle.pc_heap.specs.{declared.value.Address.Address, Objects.{Object, ObjectMap}, declared.value.Value.Value, declared.entry.Entry.Entry, Rows.{RowList, numbers_of}}
 
 abbrev pub Items : Type 0
 Items = List (Option Value)

@@ -1,7 +1,6 @@
 -- What a field of an object holds.
-use Rattle.std.specs.Prelude.{ℕ, Option, option_and_then, slice_get}
-use Rattle.std.specs.{FinMap.get, Option.option_flatten}
-use Rattle.pc_heap.specs.{declared.value.Address.Address, Objects.Object, Objects.ObjectMap, declared.value.Value.Value}
+use Rattle.std.specs.{Prelude.{ℕ, Option, option_and_then, slice_get}, FinMap.get, Option.option_flatten}
+use Rattle.pc_heap.specs.{declared.value.Address.Address, Objects.{Object, ObjectMap}, declared.value.Value.Value}
 
 -- the field of the object at an address: none if there is no such field, else its contents, which may be none
 abbrev pub field_at : ObjectMap → Address → ℕ → Option (Option Value)

@@ -1,7 +1,6 @@
 -- The invariant inside a heap.
-use Rattle.std.specs.Prelude.{◌≡◌, ℕ, ◌*◌, ◌<◌, ◌≤◌, List, Option, Some, None, length, slice_get, ⊤}
-use Rattle.std.specs.FinMap.{len}
-use Rattle.pc_heap.specs.{declared.value.Address.Address, declared.entry.Entry.Entry, Objects.made_by, Heaps.Room, Heaps.object_limit, Heaps.field_limit, declared.room.Room.Room as RoomField, Rows.RowList, Rows.numbers_of, Rows.spare_of, Entries.Items, Entries.objects_of, Entries.Laid}
+use Rattle.std.specs.{Prelude.{◌≡◌, ℕ, ◌*◌, ◌<◌, ◌≤◌, List, Option, Some, None, length, slice_get, ⊤}, FinMap.len}
+use Rattle.pc_heap.specs.{declared.value.Address.Address, declared.entry.Entry.Entry, Objects.made_by, Heaps.{Room, object_limit, field_limit}, declared.room.Room.Room as RoomField, Rows.{RowList, numbers_of, spare_of}, Entries.{Items, objects_of, Laid}}
 
 abbrev pub room_of : Option RoomField → Option Room
 room_of None = None

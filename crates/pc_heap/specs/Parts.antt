@@ -1,7 +1,6 @@
 -- Parts of what is said of objects, as proofs name them.
-use Rattle.std.specs.Prelude.{ℕ, Option, option_and_then, option_map, slice_get, unwrap_or}
-use Rattle.std.specs.Option.{option_flatten}
-use Rattle.pc_heap.specs.{Objects.Object, Objects.new_object, declared.value.Value.Value}
+use Rattle.std.specs.{Prelude.{ℕ, Option, option_and_then, option_map, slice_get, unwrap_or}, Option.option_flatten}
+use Rattle.pc_heap.specs.{Objects.{Object, new_object}, declared.value.Value.Value}
 
 -- the object, or one without fields
 abbrev pub object_in : Option Object → Object

@@ -1,6 +1,5 @@
 -- The numbers of the objects that each maker has made.
-use Rattle.std.specs.Prelude.{ℕ, nat_eq, List, [], Option, Some, None, refl}
-use Rattle.std.specs.{Map.lookup, Coded.Coded, Coded.code_by, Coded.coded×, Coded.coded_list, Coded.coded_ℕ}
+use Rattle.std.specs.{Prelude.{ℕ, nat_eq, List, [], Option, Some, None, refl}, Map.lookup, Coded.{Coded, code_by, coded×, coded_list, coded_ℕ}}
 
 -- the numbers, from the first object's, and how many more there is room for
 pub record RowData : Type 0 where

@@ -3,7 +3,7 @@ ghost use Rattle.std.specs.List.{concat};
 ghost use Rattle.std.specs.Prelude.{◌≡◌, ◌<◌, ◌+◌, ◌++◌, [], ◌∷◌, List as Sequence, ℕ, length, IfOk, OnOk, MatchOption};
 ghost use Rattle.std.specs.Str.{bytes_eq};
 
-use pc_caps::{List, SharedList};
+use pc_base::{List, SharedList};
 use std::alloc::{AllocError, Global};
 use std::cmp;
 

@@ -5,7 +5,7 @@ ghost use Rattle.std.specs.Str.{bytes_eq};
 ghost use Rattle.pc_heap.specs.Texts.{bytes_of};
 
 use crate::pieces::{Rest, are_equal, collected, is_small, joined, joined_piece, room_behind, two};
-use pc_caps::{List, SharedList};
+use pc_base::{List, SharedList};
 use std::alloc::{AllocError, Global};
 use std::marker::Model;
 use std::slice;

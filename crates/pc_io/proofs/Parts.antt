@@ -1,8 +1,6 @@
 -- A part of bytes, from a place on and up to a limit.
-use Rattle.std.proofs.Common.{◌≡◌, ◌≤◌, ℕ, zero, suc, List, [], ◌∷◌, length, take, drop, min, refl, sym, ap, ◌∙◌, inl, inr, arith}
+use Rattle.std.proofs.{Common.{◌≡◌, ◌≤◌, ℕ, zero, suc, List, [], ◌∷◌, length, take, drop, min, refl, sym, ap, ◌∙◌, inl, inr, arith}, lemmas.Bool.cases_lt, lemmas.Slice.{between_to_end, between_from_start}}
 use Rattle.std.specs.Prelude.{slice_range}
-use Rattle.std.proofs.lemmas.Bool.{cases_lt}
-use Rattle.std.proofs.lemmas.Slice.{between_to_end, between_from_start}
 use Rattle.pc_io.specs.Files.{part_of}
 
 take_past : (xs : List ℕ) (n : ℕ) → length xs ≤ n → take n xs ≡ xs

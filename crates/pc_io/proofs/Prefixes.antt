@@ -1,8 +1,5 @@
 -- Over several writes, what is known to be written grows by prefixes, and failures rise.
-use Rattle.std.proofs.Common.{◌≡◌, ℕ, ◌+◌, ◌≤◌, List, ◌++◌, length, take, drop, Option, sym, ap, ◌∙◌, subst, arith, append_assoc}
-use Rattle.std.proofs.Math.Seq.{take-append-add, take-append_seam}
-use Rattle.std.proofs.lemmas.List.{take-append-drop}
-use Rattle.std.proofs.KnownBytes.{Appends-trans}
+use Rattle.std.proofs.{Common.{◌≡◌, ℕ, ◌+◌, ◌≤◌, List, ◌++◌, length, take, drop, Option, sym, ap, ◌∙◌, subst, arith, append_assoc}, Math.Seq.{take-append-add, take-append_seam}, lemmas.List.take-append-drop, KnownBytes.Appends-trans}
 use Rattle.std.specs.Io.KnownBytes.{Appends}
 use Rattle.pc_io.specs.Sink.{HasRisen, GrowsByPrefix}
 

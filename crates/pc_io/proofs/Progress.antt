@@ -1,9 +1,6 @@
 -- How far a piece was written.
-use Rattle.std.proofs.Common.{◌≡◌, ◌≤◌, ◌+◌, ℕ, List, ◌++◌, take, drop, length, length-drop, arith, Option, Some, None, subst}
+use Rattle.std.proofs.{Common.{◌≡◌, ◌≤◌, ◌+◌, ℕ, List, ◌++◌, take, drop, length, length-drop, arith, Option, Some, None, subst}, KnownBytes.Appends-trans, Math.Seq.take-add, lemmas.Grind.common_steps}
 use Rattle.std.specs.Io.KnownBytes.{Appends}
-use Rattle.std.proofs.KnownBytes.{Appends-trans}
-use Rattle.std.proofs.Math.Seq.{take-add}
-use Rattle.std.proofs.lemmas.Grind.{common_steps}
 
 pub nothing_yet : (old : Option (List ℕ)) (piece : List ℕ) → Appends old old (take 0 piece)
 nothing_yet None piece = tt

@@ -1,8 +1,6 @@
 -- How often a name occurs in a list that grows by one.
-use Rattle.std.proofs.Common.{◌≡◌, ◌≤◌, ◌<◌, ℕ, true, List, [], ◌∷◌, ◌++◌, arith, refl, cond}
+use Rattle.std.proofs.{Common.{◌≡◌, ◌≤◌, ◌<◌, ℕ, true, List, [], ◌∷◌, ◌++◌, arith, refl, cond}, lemmas.Slice.Eq.bytes_eq-Decides, lemmas.List.Sums.sum_by_push}
 use Rattle.std.specs.Str.{bytes_eq}
-use Rattle.std.proofs.lemmas.Slice.Eq.{bytes_eq-Decides}
-use Rattle.std.proofs.lemmas.List.Sums.{sum_by_push}
 use Rattle.pc_io.specs.Failed.{times}
 
 pub equal_itself : (x : List ℕ) → bytes_eq x x ≡ true

@@ -1,6 +1,5 @@
 -- What a list of files in memory contains.
-use Rattle.std.specs.Prelude.{List, ℕ, Option, Some, find, option_map, unwrap_or, []}
-use Rattle.std.specs.Str.{bytes_eq}
+use Rattle.std.specs.{Prelude.{List, ℕ, Option, Some, find, option_map, unwrap_or, []}, Str.bytes_eq}
 use Rattle.pc_io.specs.declared.entries.Entry.{Entry}
 
 -- the bytes under a name: those of the first file with that name

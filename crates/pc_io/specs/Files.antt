@@ -1,7 +1,6 @@
 -- What reading a file returns.
-use Rattle.std.specs.Prelude.{◌≡◌, ◌<◌, ◌≤◌, ◌+◌, ℕ, List, length, take, drop, IfSome, Result, Ok, Err}
-use Rattle.std.specs.declared.option.Option.{Option}
-use Rattle.pc_io.specs.{declared.files.FileFault.FileFault, declared.files.FileFault.TheVariants.TooLong, declared.files.FileFault.TheVariants.Memory, declared.files.FileFault.TheVariants.Failed, declared.bytes.Bytes.Bytes}
+use Rattle.std.specs.{Prelude.{◌≡◌, ◌<◌, ◌≤◌, ◌+◌, ℕ, List, length, take, drop, IfSome, Result, Ok, Err}, declared.option.Option.Option}
+use Rattle.pc_io.specs.{declared.files.FileFault.FileFault, declared.files.FileFault.TheVariants.{TooLong, Memory, Failed}, declared.bytes.Bytes.Bytes}
 
 -- if the bytes are known and no failure of the name was counted, there are more bytes than the limit
 abbrev pub TooLongOnly : (limit : ℕ) → Option (List ℕ) → (before now : ℕ) → Type 0

@@ -1,6 +1,6 @@
 -- Real files, of which nothing is known but what earlier reads left.
 use Rattle.std.specs.Prelude.{ℕ, List, [], ◌∷◌, ◌++◌, Result, Ok, Err}
-use Rattle.pc_io.specs.{declared.files.FileFault.FileFault, declared.files.FileFault.TheVariants.TooLong, declared.files.FileFault.TheVariants.Memory, declared.files.FileFault.TheVariants.Failed, declared.bytes.Bytes.Bytes}
+use Rattle.pc_io.specs.{declared.files.FileFault.FileFault, declared.files.FileFault.TheVariants.{TooLong, Memory, Failed}, declared.bytes.Bytes.Bytes}
 
 -- The names whose reading failed, the latest last; how many bytes the last call took.
 pub record Readings : Type 0 where

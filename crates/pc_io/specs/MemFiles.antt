@@ -1,7 +1,6 @@
 -- Files in memory, of which chosen reads fail.
-use Rattle.std.specs.Prelude.{◌≡◌, ◌≤◌, ◌<◌, ◌+◌, nat_eq, ⊤, ℕ, Bool, false, List, [], ◌∷◌, ◌++◌, length, Result, Ok, Err, Some, None, IsSomeAnd}
-use Rattle.std.specs.List.{list_any}
-use Rattle.pc_io.specs.{declared.files.FileFault.FileFault, declared.files.FileFault.TheVariants.TooLong, declared.files.FileFault.TheVariants.Memory, declared.files.FileFault.TheVariants.Failed, declared.bytes.Bytes.Bytes, declared.entries.Entry.Entry, Sink.one_more, Entries.held, Files.part_of}
+use Rattle.std.specs.{Prelude.{◌≡◌, ◌≤◌, ◌<◌, ◌+◌, nat_eq, ⊤, ℕ, Bool, false, List, [], ◌∷◌, ◌++◌, length, Result, Ok, Err, Some, None, IsSomeAnd}, List.list_any}
+use Rattle.pc_io.specs.{declared.files.FileFault.FileFault, declared.files.FileFault.TheVariants.{TooLong, Memory, Failed}, declared.bytes.Bytes.Bytes, declared.entries.Entry.Entry, Sink.one_more, Entries.held, Files.part_of}
 
 -- The files; the numbers of the calls that fail; the number of the next call; the names whose reading failed, the
 -- latest last; how many bytes the last call took.

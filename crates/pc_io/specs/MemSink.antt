@@ -1,6 +1,6 @@
 -- A sink in memory, of which chosen calls fail.
 use Rattle.std.specs.Prelude.{◌≡◌, ◌≢◌, nat_eq, ℕ, List, [], ◌++◌, take, find, Option, None, option_map, unwrap_or, IsSome, Result, Ok, Err}
-use Rattle.pc_io.specs.{declared.sink.SinkFault.SinkFault, declared.sink.SinkFault.TheVariants.Memory, declared.sink.SinkFault.TheVariants.Failed, Sink.one_more}
+use Rattle.pc_io.specs.{declared.sink.SinkFault.SinkFault, declared.sink.SinkFault.TheVariants.{Memory, Failed}, Sink.one_more}
 
 -- The bytes written; the numbers of the calls that fail, each with the number of bytes it takes first; the number of
 -- the next call; how many calls failed.

@@ -1,6 +1,5 @@
 -- What a sink does with a piece of text, and what happened to it.
-use Rattle.std.specs.Prelude.{ℕ, ◌+◌, ◌-◌, ◌^◌, min, List, ◌≤◌, take}
-use Rattle.std.specs.{declared.option.Option.Option, Io.KnownBytes.Appends}
+use Rattle.std.specs.{Prelude.{ℕ, ◌+◌, ◌-◌, ◌^◌, min, List, ◌≤◌, take}, declared.option.Option.Option, Io.KnownBytes.Appends}
 
 -- the next value of a counter, which stays at its last value
 abbrev pub one_more : ℕ → ℕ

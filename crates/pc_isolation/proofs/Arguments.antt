@@ -1,23 +1,16 @@
 -- Waiting arguments, by regions: with the number of its message, each holds the region of its object, or has it frozen.
 use Rattle.std.specs.Prelude.{◌≡◌, ◌⊎◌, ℕ, zero, suc, ◌+◌, List, [], ◌∷◌, Option, Some, None, slice_get, refl}
-use Rattle.std.proofs.Common.{inl, inr, ap, sym, subst, ◌∙◌, arith}
-use Rattle.std.proofs.lemmas.Option.{same_Some, none-some}
-use Rattle.pc_heap.specs.declared.value.Address.{Address}
-use Rattle.pc_heap.specs.declared.value.Value.TheVariants.{At}
-use Rattle.pc_caps.specs.Tables.{unalias}
-use Rattle.pc_caps.specs.declared.capability.Cap.{Cap}
+use Rattle.std.proofs.{Common.{inl, inr, ap, sym, subst, ◌∙◌, arith}, lemmas.Option.{same_Some, none-some}}
+use Rattle.pc_heap.specs.{declared.value.Address.Address, declared.value.Value.TheVariants.At}
+use Rattle.pc_caps.specs.{Tables.unalias, declared.capability.Cap.Cap}
 use Rattle.pc_caps.specs.declared.capability.Cap.TheVariants as cap
 use Rattle.pc_core.specs.CoreData.{CoreData}
-use Rattle.pc_lists.proofs.Options.{bind_some}
+use Rattle.pc_base.proofs.Options.{bind_some}
 use Rattle.pc_ann.specs.declared.annotation.Ann.{Ann}
-use Rattle.pc_semantics.specs.declared.actors.Actor.{Actor}
-use Rattle.pc_semantics.specs.declared.mailbox.Message.{Message}
-use Rattle.pc_semantics.specs.Configurations.{Configuration}
-use Rattle.pc_regions.proofs.World.{InMail, World, FitsIn}
-use Rattle.pc_regions.proofs.Fitting.{MessageFits, MailFits, InRegions}
+use Rattle.pc_semantics.specs.{declared.actors.Actor.Actor, declared.mailbox.Message.Message, Configurations.Configuration}
+use Rattle.pc_regions.proofs.{World.{InMail, World, FitsIn}, Fitting.{MessageFits, MailFits, InRegions}}
 use Rattle.pc_isolation.specs.Isolated.{Waits, Inside, SeenFrom}
-use Rattle.pc_isolation.proofs.Mailed.{Mailed, sent, Shown}
-use Rattle.pc_isolation.proofs.Fields.{inside_mailed, seen_shown_from}
+use Rattle.pc_isolation.proofs.{Mailed.{Mailed, sent, Shown}, Fields.{inside_mailed, seen_shown_from}}
 
 -- The k-th message of a mailbox has the number of the first and k.
 mail_fits_at : (core : CoreData) (w : World) (j t : ℕ) (ms : List Message) → MailFits core w j t ms → (k : ℕ) (m : Message) → slice_get ms k ≡ Some m → MessageFits core w j (t + k) m

@@ -1,30 +1,16 @@
 -- The examples, computed. The laws of maps determine what is at an address.
-use Rattle.std.specs.Prelude.{◌≡◌, ◌≢◌, ℕ, zero, suc, Bool, true, false, [], ◌∷◌, Some, None, slice_get, refl}
-use Rattle.std.specs.FinMap.{empty, get, get-empty}
-use Rattle.std.proofs.Common.{ap, sym, subst, ◌∙◌, arith}
-use Rattle.std.proofs.lemmas.Option.{same_Some, none-some}
-use Rattle.pc_lists.proofs.Bools.{false_true}
-use Rattle.pc_heap.specs.Objects.{address_cmp, Object}
-use Rattle.pc_heap.specs.declared.value.Address.{Address}
-use Rattle.pc_heap.specs.declared.value.Value.{Value}
-use Rattle.pc_heap.specs.declared.value.Value.TheVariants.{At}
-use Rattle.pc_caps.specs.Tables.{sendable}
-use Rattle.pc_caps.specs.declared.capability.Cap.{Cap}
+use Rattle.std.specs.{Prelude.{◌≡◌, ◌≢◌, ℕ, zero, suc, Bool, true, false, [], ◌∷◌, Some, None, slice_get, refl}, FinMap.{empty, get, get-empty}}
+use Rattle.std.proofs.{Common.{ap, sym, subst, ◌∙◌, arith}, lemmas.Option.{same_Some, none-some}}
+use Rattle.pc_base.proofs.Bools.{false_true}
+use Rattle.pc_heap.specs.{Objects.{address_cmp, Object}, declared.value.Address.Address, declared.value.Value.Value, declared.value.Value.TheVariants.At}
+use Rattle.pc_caps.specs.{Tables.sendable, declared.capability.Cap.Cap}
 use Rattle.pc_caps.specs.declared.capability.Cap.TheVariants as cap
-use Rattle.pc_core.specs.Entities.{nowhere}
-use Rattle.pc_core.specs.declared.declarations.Method.{Method}
+use Rattle.pc_core.specs.{Entities.nowhere, declared.declarations.Method.Method, declared.declarations.ParamInfo.ParamInfo}
 use Rattle.pc_core.specs.declared.declarations.MethodKind.TheVariants as method
-use Rattle.pc_core.specs.declared.declarations.ParamInfo.{ParamInfo}
-use Rattle.pc_semantics.specs.declared.access.Access.{Access}
-use Rattle.pc_semantics.specs.declared.actors.Actor.{Actor}
-use Rattle.pc_semantics.specs.declared.frames.Task.{Task}
+use Rattle.pc_semantics.specs.{declared.access.Access.Access, declared.actors.Actor.Actor, declared.frames.Task.Task, declared.mailbox.Message.Message, Programs.constructor_of, Safety.{access, LetAlone, QuietMessage, Quiet}}
 use Rattle.pc_semantics.specs.declared.frames.Task.TheVariants as task
-use Rattle.pc_semantics.specs.declared.mailbox.Message.{Message}
-use Rattle.pc_semantics.specs.Programs.{constructor_of}
-use Rattle.pc_semantics.specs.Safety.{access, LetAlone, QuietMessage, Quiet}
 use Rattle.pc_events.proofs.Maps.{get_after}
-use Rattle.pc_isolation.specs.Isolated.{itself, further, Inside}
-use Rattle.pc_isolation.specs.Examples.{taking, whole, part, about_to, WaitingIsSeen}
+use Rattle.pc_isolation.specs.{Isolated.{itself, further, Inside}, Examples.{taking, whole, part, about_to, WaitingIsSeen}}
 
 get_none : (b : Address) → get (empty {X = Object} {R = address_cmp}) b ≡ None
 get_none b = get-empty address_cmp b

@@ -1,22 +1,14 @@
 -- Where fields lead, by regions: what is inside an object that a waiting argument holds is held by that argument, and what is seen
 -- from it is held by it or frozen.
 use Rattle.std.specs.Prelude.{◌≡◌, ℕ, Bool, true, Option, Some, None, slice_get}
-use Rattle.std.proofs.Common.{inl, inr, ap, sym, subst, ◌∙◌}
-use Rattle.std.proofs.lemmas.Option.{same_Some, none-some}
-use Rattle.pc_heap.specs.Objects.{ObjectMap, class_at, Object}
-use Rattle.pc_heap.specs.Parts.{field_in, value_in}
-use Rattle.pc_heap.specs.declared.value.Address.{Address}
-use Rattle.pc_heap.specs.declared.value.Value.{Value}
-use Rattle.pc_heap.specs.declared.value.Value.TheVariants.{At}
-use Rattle.pc_caps.specs.Tables.{unalias}
-use Rattle.pc_caps.specs.declared.capability.Cap.{Cap}
+use Rattle.std.proofs.{Common.{inl, inr, ap, sym, subst, ◌∙◌}, lemmas.Option.{same_Some, none-some}}
+use Rattle.pc_heap.specs.{Objects.{ObjectMap, class_at, Object}, Parts.{field_in, value_in}, declared.value.Address.Address, declared.value.Value.Value, declared.value.Value.TheVariants.At}
+use Rattle.pc_caps.specs.{Tables.unalias, declared.capability.Cap.Cap}
 use Rattle.pc_caps.specs.declared.capability.Cap.TheVariants as cap
 use Rattle.pc_core.specs.CoreData.{CoreData}
-use Rattle.pc_lists.proofs.Bools.{false_true}
-use Rattle.pc_lists.proofs.Options.{bind_some}
+use Rattle.pc_base.proofs.{Bools.false_true, Options.bind_some}
 use Rattle.pc_types.proofs.Growth.{object_of}
-use Rattle.pc_regions.proofs.World.{InField, World, Frozen, in_ice, under_ice, FitsIn}
-use Rattle.pc_regions.proofs.Fitting.{FieldsFit}
+use Rattle.pc_regions.proofs.{World.{InField, World, Frozen, in_ice, under_ice, FitsIn}, Fitting.FieldsFit}
 use Rattle.pc_isolation.specs.Isolated.{FieldLeads, keeps, shows, FieldsReach, itself, further}
 use Rattle.pc_isolation.proofs.Mailed.{Mailed, in_it, part, Shown, seen_cold, seen_shown, mailed_is_warm, holder_mailed, parent_mailed, seer_mailed}
 

@@ -2,35 +2,16 @@
 use Rattle.std.specs.Prelude.{◌≡◌, ℕ, true, List, []}
 use Rattle.std.proofs.Common.{inl, inr, sym, subst, ◌∙◌}
 use Rattle.pc_heap.specs.declared.value.Address.{Address}
-use Rattle.pc_core.specs.CoreData.{CoreData}
-use Rattle.pc_core.specs.Formed.{Formed}
-use Rattle.pc_lists.proofs.Bools.{false_true}
+use Rattle.pc_core.specs.{CoreData.CoreData, Formed.Formed}
+use Rattle.pc_base.proofs.Bools.{false_true}
 use Rattle.pc_ann.specs.declared.annotation.Ann.{Ann}
 use Rattle.pc_valid.specs.Valid.{Valid}
 use Rattle.pc_rules.proofs.Derivations.{to_valid}
-use Rattle.pc_semantics.specs.declared.access.Access.{Access}
-use Rattle.pc_semantics.specs.Configurations.{Configuration, start}
-use Rattle.pc_semantics.specs.Step.{run_from, after}
-use Rattle.pc_types.proofs.Needs.{Needs}
-use Rattle.pc_types.proofs.Needed.{needed}
-use Rattle.pc_types.proofs.Steps.{run_ok}
-use Rattle.pc_types.proofs.AllTasks.{keeps}
-use Rattle.pc_types.proofs.Takes.{takes}
-use Rattle.pc_types.proofs.Starts.{start_typed}
-use Rattle.pc_types.proofs.Typed.{WellTyped}
-use Rattle.pc_regions.proofs.World.{World}
-use Rattle.pc_regions.proofs.OneHolder.{AccessOk, not_frozen}
-use Rattle.pc_regions.proofs.Fitting.{InRegions, HasRegions}
-use Rattle.pc_regions.proofs.NoRace.{accesses_ok}
-use Rattle.pc_regions.proofs.StartFits.{start_in_regions}
-use Rattle.pc_regions.proofs.Schedules.{run_in_regions}
-use Rattle.pc_regions.proofs.TakesMessage.{takes_regions}
-use Rattle.pc_regions.proofs.AllKeep.{keeps_regions}
-use Rattle.pc_isolation.specs.Isolated.{Isolated}
-use Rattle.pc_isolation.specs.ValidLaws.{ValidIsIsolated}
-use Rattle.pc_isolation.proofs.Mailed.{Mailed, mailed_is_none's, mailed_is_warm, mailed_once, Shown}
-use Rattle.pc_isolation.proofs.Fields.{leads_from_mailed}
-use Rattle.pc_isolation.proofs.Arguments.{ticket, one_place, inside_argument, seen_from_argument}
+use Rattle.pc_semantics.specs.{declared.access.Access.Access, Configurations.{Configuration, start}, Step.{run_from, after}}
+use Rattle.pc_types.proofs.{Needs.Needs, Needed.needed, Steps.run_ok, AllTasks.keeps, Takes.takes, Starts.start_typed, Typed.WellTyped}
+use Rattle.pc_regions.proofs.{World.World, OneHolder.{AccessOk, not_frozen}, Fitting.{InRegions, HasRegions}, NoRace.accesses_ok, StartFits.start_in_regions, Schedules.run_in_regions, TakesMessage.takes_regions, AllKeep.keeps_regions}
+use Rattle.pc_isolation.specs.{Isolated.Isolated, ValidLaws.ValidIsIsolated}
+use Rattle.pc_isolation.proofs.{Mailed.{Mailed, mailed_is_none's, mailed_is_warm, mailed_once, Shown}, Fields.leads_from_mailed, Arguments.{ticket, one_place, inside_argument, seen_from_argument}}
 
 -- ---- accesses
 

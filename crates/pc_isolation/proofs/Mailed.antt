@@ -3,8 +3,7 @@
 use Rattle.std.specs.Prelude.{◌≡◌, ◌⊎◌, ℕ, Option}
 use Rattle.std.proofs.Common.{inl, inr, sym, subst}
 use Rattle.pc_heap.specs.declared.value.Address.{Address}
-use Rattle.pc_regions.proofs.World.{Place, InField, InMail, Held, Child, World, Frozen, ice, in_ice, under_ice, Belongs, opened, loose, slot, stack, field, child, Seen, same, under, frozen}
-use Rattle.pc_regions.proofs.OneHolder.{mail_is_none's, mail_is_warm}
+use Rattle.pc_regions.proofs.{World.{Place, InField, InMail, Held, Child, World, Frozen, ice, in_ice, under_ice, Belongs, opened, loose, slot, stack, field, child, Seen, same, under, frozen}, OneHolder.{mail_is_none's, mail_is_warm}}
 
 -- Held by the message that was sent to actor j as number t, for its argument k; or held by a field of an object of what is, or
 -- a child of what is.

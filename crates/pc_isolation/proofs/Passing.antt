@@ -5,26 +5,11 @@ use Rattle.pc_heap.specs.declared.value.Address.{Address}
 use Rattle.pc_caps.specs.declared.capability.Cap.{Cap}
 use Rattle.pc_caps.specs.declared.capability.Cap.TheVariants as cap
 use Rattle.pc_core.specs.CoreData.{CoreData}
-use Rattle.pc_semantics.specs.declared.mailbox.Message.{Message}
-use Rattle.pc_semantics.specs.declared.outcome.Lack.{Lack}
-use Rattle.pc_semantics.specs.declared.outcome.Outcome.{Outcome}
-use Rattle.pc_semantics.specs.declared.outcome.Outcome.TheVariants.{Moved, Skipped, Lacks, TooLong}
-use Rattle.pc_semantics.specs.Configurations.{Configuration}
-use Rattle.pc_semantics.specs.Step.{step, followed, run_from, after}
-use Rattle.pc_semantics.specs.Laws.{OnlyMovesChange}
-use Rattle.pc_events.specs.Before.{takes_one, takes_from}
-use Rattle.pc_events.specs.Accesses.{OnlyAccessed}
-use Rattle.pc_events.proofs.OnlyAccesses.{step_accessed}
-use Rattle.pc_events.proofs.Changes.{applied}
-use Rattle.pc_events.proofs.Plans.{plans, step_is}
-use Rattle.pc_events.proofs.Reach.{run_placed, after_placed}
-use Rattle.pc_isolation.specs.Isolated.{keeps, shows, FieldsReach, waiting_at, Waits, Inside, SeenFrom, Isolated}
-use Rattle.pc_isolation.specs.Passed.{Whole}
-use Rattle.pc_isolation.specs.ValidLaws.{ValidIsPassedWhole}
-use Rattle.pc_isolation.proofs.Reaching.{Unwritten, values_kept, reach_on, reach_back, shown}
-use Rattle.pc_isolation.proofs.Steps.{message_kept, nothing_taken}
-use Rattle.pc_isolation.proofs.Takes.{taken_whole}
-use Rattle.pc_isolation.proofs.Isolation.{isolated_from}
+use Rattle.pc_semantics.specs.{declared.mailbox.Message.Message, declared.outcome.Lack.Lack, declared.outcome.Outcome.Outcome, declared.outcome.Outcome.TheVariants.{Moved, Skipped, Lacks, TooLong}, Configurations.Configuration, Step.{step, followed, run_from, after}, Laws.OnlyMovesChange}
+use Rattle.pc_events.specs.{Before.{takes_one, takes_from}, Accesses.OnlyAccessed}
+use Rattle.pc_events.proofs.{OnlyAccesses.step_accessed, Changes.applied, Plans.{plans, step_is}, Reach.{run_placed, after_placed}}
+use Rattle.pc_isolation.specs.{Isolated.{keeps, shows, FieldsReach, waiting_at, Waits, Inside, SeenFrom, Isolated}, Passed.Whole, ValidLaws.ValidIsPassedWhole}
+use Rattle.pc_isolation.proofs.{Reaching.{Unwritten, values_kept, reach_on, reach_back, shown}, Steps.{message_kept, nothing_taken}, Takes.taken_whole, Isolation.isolated_from}
 
 -- ---- one step
 

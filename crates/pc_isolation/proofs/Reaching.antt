@@ -1,21 +1,12 @@
 -- Where fields lead before a step and after it, if no object on the way is written.
-use Rattle.std.specs.Prelude.{◌≡◌, ◌≢◌, ℕ, Bool, true, Option, Some, None, refl}
-use Rattle.std.specs.FinMap.{get}
-use Rattle.std.proofs.Common.{inl, inr, ap, sym, ◌∙◌}
-use Rattle.std.proofs.lemmas.Option.{none-some}
-use Rattle.pc_lists.proofs.Options.{bind_some, bind_is}
-use Rattle.pc_heap.specs.Objects.{class_at}
-use Rattle.pc_heap.specs.Parts.{value_in}
-use Rattle.pc_heap.specs.Fields.{value_at}
-use Rattle.pc_heap.specs.declared.value.Address.{Address}
-use Rattle.pc_heap.specs.declared.value.Value.TheVariants.{At}
+use Rattle.std.specs.{Prelude.{◌≡◌, ◌≢◌, ℕ, Bool, true, Option, Some, None, refl}, FinMap.get}
+use Rattle.std.proofs.{Common.{inl, inr, ap, sym, ◌∙◌}, lemmas.Option.none-some}
+use Rattle.pc_base.proofs.{Options.{bind_some, bind_is}, Bools.false_true}
+use Rattle.pc_heap.specs.{Objects.class_at, Parts.value_in, Fields.value_at, declared.value.Address.Address, declared.value.Value.TheVariants.At}
 use Rattle.pc_caps.specs.declared.capability.Cap.{Cap}
 use Rattle.pc_caps.specs.declared.capability.Cap.TheVariants as cap
 use Rattle.pc_core.specs.CoreData.{CoreData}
-use Rattle.pc_lists.proofs.Bools.{false_true}
-use Rattle.pc_semantics.specs.declared.access.Access.{Access}
-use Rattle.pc_semantics.specs.Configurations.{Configuration}
-use Rattle.pc_semantics.specs.Safety.{access}
+use Rattle.pc_semantics.specs.{declared.access.Access.Access, Configurations.Configuration, Safety.access}
 use Rattle.pc_events.specs.Accesses.{OnlyAccessed}
 use Rattle.pc_events.proofs.OnlyAccesses.{absent_empty}
 use Rattle.pc_isolation.specs.Isolated.{field_cap, FieldLeads, keeps, shows, FieldsReach, itself, further}

@@ -1,27 +1,12 @@
 -- A message that waits, before a step that does not take it and after it.
 use Rattle.std.specs.Prelude.{◌≡◌, ◌≢◌, ℕ, suc, ◌+◌, Bool, true, false, ◌&&◌, cond, if◌then◌else◌, List, [], ◌∷◌, Some, nat_eq, slice_get, refl}
-use Rattle.std.proofs.Common.{inl, inr, ap, subst, ◌∙◌}
-use Rattle.std.proofs.lemmas.Option.{none-some}
-use Rattle.std.proofs.lemmas.Bool.Decides.{eqb_tells}
-use Rattle.pc_lists.proofs.Options.{bind_some, bind_is}
-use Rattle.pc_lists.proofs.Gets.{get_front}
+use Rattle.std.proofs.{Common.{inl, inr, ap, subst, ◌∙◌}, lemmas.Option.none-some, lemmas.Bool.Decides.eqb_tells}
+use Rattle.pc_base.proofs.{Options.{bind_some, bind_is}, Gets.get_front}
 use Rattle.pc_core.specs.CoreData.{CoreData}
-use Rattle.pc_semantics.specs.declared.actors.Actor.{Actor}
-use Rattle.pc_semantics.specs.declared.mailbox.Message.{Message}
-use Rattle.pc_semantics.specs.declared.outcome.Outcome.{Outcome}
-use Rattle.pc_semantics.specs.declared.outcome.Outcome.TheVariants.{Moved}
-use Rattle.pc_semantics.specs.Configurations.{Configuration}
-use Rattle.pc_semantics.specs.Step.{step}
-use Rattle.pc_semantics.specs.declared.ahead.Ahead.{Ahead}
+use Rattle.pc_semantics.specs.{declared.actors.Actor.Actor, declared.mailbox.Message.Message, declared.outcome.Outcome.Outcome, declared.outcome.Outcome.TheVariants.Moved, Configurations.Configuration, Step.step, declared.ahead.Ahead.Ahead, Ahead.ahead_of}
 use Rattle.pc_semantics.specs.declared.ahead.Ahead.TheVariants as ahead
-use Rattle.pc_semantics.specs.Ahead.{ahead_of}
-use Rattle.pc_events.specs.Before.{is_take, takes_one}
-use Rattle.pc_events.proofs.Outcomes.{own_next, other_next}
-use Rattle.pc_events.specs.AheadLaws.{Agrees}
-use Rattle.pc_events.proofs.Agrees.{ahead_agrees}
-use Rattle.pc_events.proofs.Changes.{changed, left_mail, going, acted, Change, applied, plan}
-use Rattle.pc_events.proofs.Lists.{get_changed}
-use Rattle.pc_events.proofs.Kept.{Still, sent_still, acted_still, spawned_still}
+use Rattle.pc_events.specs.{Before.{is_take, takes_one}, AheadLaws.Agrees}
+use Rattle.pc_events.proofs.{Outcomes.{own_next, other_next}, Agrees.ahead_agrees, Changes.{changed, left_mail, going, acted, Change, applied, plan}, Lists.get_changed, Kept.{Still, sent_still, acted_still, spawned_still}}
 use Rattle.pc_isolation.specs.Isolated.{waiting_at}
 
 left_at : (t : Bool) (ms : List Message) (k l : ℕ) (m : Message) → k ≡ cond t (suc l) l → slice_get ms k ≡ Some m → slice_get (left_mail t ms) l ≡ Some m

@@ -1,35 +1,15 @@
 -- A step that takes a message puts its arguments into the slots of the frame that begins, and changes no object.
 use Rattle.std.specs.Prelude.{◌≡◌, ℕ, zero, suc, List, [], ◌∷◌, map, Option, Some, None, slice_get, refl}
-use Rattle.std.proofs.Common.{inl, inr, ap, sym, subst, ◌∙◌}
-use Rattle.std.proofs.lemmas.Option.{same_Some, none-some}
-use Rattle.pc_lists.proofs.Bools.{false_true}
-use Rattle.pc_lists.proofs.Options.{bind_some}
-use Rattle.pc_lists.proofs.Gets.{get_front, get_map}
-use Rattle.pc_heap.specs.declared.value.Address.{Address}
-use Rattle.pc_heap.specs.declared.value.Value.{Value}
-use Rattle.pc_heap.specs.declared.value.Value.TheVariants.{Text, At}
+use Rattle.std.proofs.{Common.{inl, inr, ap, sym, subst, ◌∙◌}, lemmas.Option.{same_Some, none-some}}
+use Rattle.pc_base.proofs.{Bools.false_true, Options.bind_some, Gets.{get_front, get_map}}
+use Rattle.pc_heap.specs.{declared.value.Address.Address, declared.value.Value.Value, declared.value.Value.TheVariants.{Text, At}}
 use Rattle.pc_caps.specs.declared.capability.Cap.{Cap}
-use Rattle.pc_core.specs.CoreData.{CoreData}
-use Rattle.pc_core.specs.declared.declarations.Method.{Method}
-use Rattle.pc_semantics.specs.declared.actors.Actor.{Actor}
-use Rattle.pc_semantics.specs.declared.mailbox.Message.{Message}
-use Rattle.pc_semantics.specs.declared.outcome.Outcome.{Outcome}
-use Rattle.pc_semantics.specs.declared.outcome.Outcome.TheVariants.{Moved}
-use Rattle.pc_semantics.specs.Configurations.{Configuration}
-use Rattle.pc_semantics.specs.Step.{step}
-use Rattle.pc_semantics.specs.declared.ahead.Ahead.{Ahead}
+use Rattle.pc_core.specs.{CoreData.CoreData, declared.declarations.Method.Method}
+use Rattle.pc_semantics.specs.{declared.actors.Actor.Actor, declared.mailbox.Message.Message, declared.outcome.Outcome.Outcome, declared.outcome.Outcome.TheVariants.Moved, Configurations.Configuration, Step.step, declared.ahead.Ahead.Ahead, Ahead.ahead_of}
 use Rattle.pc_semantics.specs.declared.ahead.Ahead.TheVariants as ahead
-use Rattle.pc_semantics.specs.Ahead.{ahead_of}
-use Rattle.pc_events.specs.Before.{is_take}
-use Rattle.pc_events.proofs.Outcomes.{takes_is}
-use Rattle.pc_events.proofs.SimEvent.{task_takes}
-use Rattle.pc_events.specs.AheadLaws.{Agrees}
-use Rattle.pc_events.proofs.Agrees.{ahead_agrees}
-use Rattle.pc_events.proofs.Changes.{Change, applied, plan_print, plan_begun, plan_begin, plan_message, plan}
-use Rattle.pc_events.proofs.Lists.{get_changed}
-use Rattle.pc_events.proofs.Plans.{Running, Taking, view, plans, step_is}
-use Rattle.pc_isolation.specs.Isolated.{Waits}
-use Rattle.pc_isolation.specs.Passed.{HandedOver, TakenWhole}
+use Rattle.pc_events.specs.{Before.is_take, AheadLaws.Agrees}
+use Rattle.pc_events.proofs.{Outcomes.takes_is, SimEvent.task_takes, Agrees.ahead_agrees, Changes.{Change, applied, plan_print, plan_begun, plan_begin, plan_message, plan}, Lists.get_changed, Plans.{Running, Taking, view, plans, step_is}}
+use Rattle.pc_isolation.specs.{Isolated.Waits, Passed.{HandedOver, TakenWhole}}
 
 text_at : (t : List ℕ) (n : ℕ) (a : Address) → slice_get (Text t ∷ []) n ≡ Some (At a) → ⊥
 text_at t zero a e = cc

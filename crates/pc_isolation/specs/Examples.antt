@@ -1,10 +1,9 @@
 -- Waiting messages that are let alone, and some that are not.
-use Rattle.std.specs.Prelude.{false, [], ◌∷◌, codes}
-use Rattle.std.specs.FinMap.{empty, insert}
-use Rattle.pc_heap.specs.{Objects.ObjectMap, Objects.new_object, Objects.with_field, declared.value.Address.Address, declared.value.Value.TheVariants.Num, declared.value.Value.TheVariants.At}
+use Rattle.std.specs.{Prelude.{false, [], ◌∷◌, codes}, FinMap.{empty, insert}}
+use Rattle.pc_heap.specs.{Objects.{ObjectMap, new_object, with_field}, declared.value.Address.Address, declared.value.Value.TheVariants.{Num, At}}
 use Rattle.pc_caps.specs.declared.capability.Cap.{Cap}
 use Rattle.pc_core.specs.{Entities.nowhere, CoreData.CoreData}
-use Rattle.pc_semantics.specs.{declared.frames.Task.Task, Configurations.Configuration, Configurations.own_address, Programs.n, Programs.program, Programs.entity, Programs.constructor_of, Programs.node_of, Safety.Quiet}
+use Rattle.pc_semantics.specs.{declared.frames.Task.Task, Configurations.{Configuration, own_address}, Programs.{n, program, entity, constructor_of, node_of}, Safety.Quiet}
 use Rattle.pc_isolation.specs.Isolated.{Inside, Isolated}
 use Rattle.pc_caps.specs.declared.capability.Cap.TheVariants as cap
 use Rattle.pc_tree.specs.declared.kinds.EntityKind.TheVariants as kind

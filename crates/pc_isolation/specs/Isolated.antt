@@ -1,9 +1,9 @@
 -- When waiting messages are isolated in depth: arguments are let alone, and what fields other than `tag` lead to.
 use Rattle.std.specs.Prelude.{◌≡◌, ◌≢◌, ◌⊎◌, ℕ, Bool, true, false, Option, Some, slice_get}
-use Rattle.pc_heap.specs.{Objects.ObjectMap, Objects.class_at, Fields.value_at, declared.value.Address.Address, declared.value.Value.TheVariants.At}
+use Rattle.pc_heap.specs.{Objects.{ObjectMap, class_at}, Fields.value_at, declared.value.Address.Address, declared.value.Value.TheVariants.At}
 use Rattle.pc_caps.specs.{Tables.at, declared.capability.Cap.Cap}
 use Rattle.pc_core.specs.CoreData.{CoreData}
-use Rattle.pc_lists.specs.Lists.{◌>>=◌}
+use Rattle.pc_base.specs.Lists.{◌>>=◌}
 use Rattle.pc_semantics.specs.{declared.access.Access.Access, declared.mailbox.Message.Message, Configurations.Configuration, Safety.access}
 use Rattle.pc_caps.specs.declared.capability.Cap.TheVariants as cap
 

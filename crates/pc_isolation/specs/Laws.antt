@@ -3,7 +3,7 @@
 use Rattle.std.specs.Prelude.{ℕ, List}
 use Rattle.pc_core.specs.CoreData.{CoreData}
 use Rattle.pc_semantics.specs.Step.{after}
-use Rattle.pc_isolation.specs.{Isolated.Isolated, Passed.StaysWhole, Passed.TakenWhole}
+use Rattle.pc_isolation.specs.{Isolated.Isolated, Passed.{StaysWhole, TakenWhole}}
 
 -- After every list of actors, of any length.
 abbrev pub AlwaysIsolated : CoreData → Type 0

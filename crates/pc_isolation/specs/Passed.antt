@@ -3,7 +3,7 @@ use Rattle.std.specs.Prelude.{◌≡◌, ◌↔◌, ℕ, suc, ◌+◌, List, [],
 use Rattle.pc_heap.specs.{Fields.value_at, declared.value.Address.Address, declared.value.Value.TheVariants.At}
 use Rattle.pc_caps.specs.declared.capability.Cap.{Cap}
 use Rattle.pc_core.specs.CoreData.{CoreData}
-use Rattle.pc_semantics.specs.{declared.actors.Actor.Actor, declared.frames.Frame.Frame, declared.mailbox.Message.Message, Configurations.Configuration, Step.step, Step.run_from, Ahead.ahead_of}
+use Rattle.pc_semantics.specs.{declared.actors.Actor.Actor, declared.frames.Frame.Frame, declared.mailbox.Message.Message, Configurations.Configuration, Step.{step, run_from}, Ahead.ahead_of}
 use Rattle.pc_events.specs.Before.{takes_from}
 use Rattle.pc_isolation.specs.Isolated.{waiting_at, Waits, Inside, SeenFrom}
 use Rattle.pc_semantics.specs.declared.ahead.Ahead.TheVariants as ahead

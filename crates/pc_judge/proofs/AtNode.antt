@@ -1,15 +1,9 @@
 -- The fault at one node.
 use Rattle.std.specs.Prelude.{◌≡◌, ℕ, Bool, true, false, not, Option, Some, None, slice_get, refl}
-use Rattle.std.proofs.Common.{ap, sym, subst, ◌∙◌}
-use Rattle.std.proofs.lemmas.Bool.{and_parts, eqb-true, eq-eqb, and_from}
-use Rattle.std.proofs.lemmas.Option.{same_Some, none-some}
-use Rattle.pc_lists.proofs.Gets.{get_below}
-use Rattle.pc_core.specs.declared.declarations.Method.{Method}
-use Rattle.pc_core.specs.declared.nodes.Node.{Node}
-use Rattle.pc_core.specs.CoreData.{CoreData}
-use Rattle.pc_core.specs.Formed.{Formed}
-use Rattle.pc_ann.specs.declared.annotation.Note.{Note}
-use Rattle.pc_ann.specs.declared.annotation.Ann.{Ann}
+use Rattle.std.proofs.{Common.{ap, sym, subst, ◌∙◌}, lemmas.Bool.{and_parts, eqb-true, eq-eqb, and_from}, lemmas.Option.{same_Some, none-some}}
+use Rattle.pc_base.proofs.{Gets.get_below, Bools.no_both}
+use Rattle.pc_core.specs.{declared.declarations.Method.Method, declared.nodes.Node.Node, CoreData.CoreData, Formed.Formed}
+use Rattle.pc_ann.specs.{declared.annotation.Note.Note, declared.annotation.Ann.Ann}
 use Rattle.pc_rules.specs.Parts.{full}
 use Rattle.pc_valid.specs.Valid.{MeetsRule, SetsFields}
 use Rattle.pc_rules.proofs.RecordWords.{constructs_iff, all_set_iff}
@@ -17,7 +11,6 @@ use Rattle.pc_judge.specs.declared.faults.JudgeFault.TheVariants as fault
 use Rattle.pc_judge.specs.AtNodes as spec
 use Rattle.pc_judge.specs.Computed as computed
 use Rattle.pc_judge.proofs.Bodies.{body_method}
-use Rattle.pc_lists.proofs.Bools.{no_both}
 
 not_both : (b : Bool) → b ≡ true → not b ≡ true → ⊥
 not_both true e f = cc f

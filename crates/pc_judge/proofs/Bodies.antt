@@ -1,11 +1,8 @@
 -- A body is a node of its method.
 use Rattle.std.specs.Prelude.{◌≡◌, ℕ, ◌-◌, ◌<◌, length, Some, slice_get}
 use Rattle.std.proofs.Common.{sym, subst, ◌∙◌, arith}
-use Rattle.pc_core.specs.declared.declarations.Method.{Method}
-use Rattle.pc_core.specs.declared.nodes.Node.{Node}
-use Rattle.pc_core.specs.CoreData.{CoreData, node_end}
-use Rattle.pc_core.specs.Formed.{Formed}
-use Rattle.pc_lists.proofs.Gets.{range_get, get_below}
+use Rattle.pc_core.specs.{declared.declarations.Method.Method, declared.nodes.Node.Node, CoreData.{CoreData, node_end}, Formed.Formed}
+use Rattle.pc_base.proofs.Gets.{range_get, get_below}
 
 pub body_within : (core : CoreData) (m b : ℕ) (x : Method) → Formed core → slice_get core.methods m ≡ Some x → x.body ≡ Some b → b < length core.nodes
 body_within core m b x f g e = let fit = (f.methods m x g).body b e in get_below core.nodes b fit.root fit.is_root

@@ -1,36 +1,24 @@
 -- The faults of the small program's faulty derivations.
 use Rattle.std.specs.Prelude.{◌≡◌, ℕ, zero, suc, ◌<◌, Bool, true, false, List, [], ◌∷◌, length, Option, Some, None, slice_get, refl}
-use Rattle.std.proofs.Common.{inl, ap, sym, subst, ◌∙◌, arith}
-use Rattle.std.proofs.lemmas.Option.{same_Some, none-some}
-use Rattle.pc_caps.specs.declared.capability.Cap.{Cap}
+use Rattle.std.proofs.{Common.{inl, ap, sym, subst, ◌∙◌, arith}, lemmas.Option.{same_Some, none-some}}
+use Rattle.pc_caps.specs.{declared.capability.Cap.Cap, Tables.sendable, declared.capability.Form.Form}
 use Rattle.pc_caps.specs.declared.capability.Cap.TheVariants as cap
-use Rattle.pc_caps.specs.Tables.{sendable}
-use Rattle.pc_caps.specs.declared.capability.Form.{Form}
 use Rattle.pc_caps.specs.declared.capability.Form.TheVariants as form
 use Rattle.pc_tree.specs.Kinds.{none_entity}
-use Rattle.pc_core.specs.declared.declarations.EntityDef.{EntityDef}
-use Rattle.pc_core.specs.declared.declarations.Method.{Method}
-use Rattle.pc_core.specs.declared.declarations.ParamInfo.{ParamInfo}
-use Rattle.pc_core.specs.declared.nodes.Node.{Node}
+use Rattle.pc_core.specs.{declared.declarations.EntityDef.EntityDef, declared.declarations.Method.Method, declared.declarations.ParamInfo.ParamInfo, declared.nodes.Node.Node, declared.nodes.Slot.Slot, Entities.{print_method, Conforms}}
 use Rattle.pc_core.specs.declared.nodes.NodeKind.TheVariants as node
-use Rattle.pc_core.specs.declared.nodes.Slot.{Slot}
 use Rattle.pc_core.specs.declared.nodes.SlotKind.TheVariants as slot
-use Rattle.pc_lists.specs.Lists.{Each}
-use Rattle.pc_core.specs.Entities.{print_method, Conforms}
+use Rattle.pc_base.specs.Lists.{Each}
 use Rattle.pc_ann.specs.declared.annotation.Note.{Note}
 use Rattle.pc_ann.specs.declared.annotation.Rule.TheVariants as rule
 use Rattle.pc_sub.specs.Declarations.{TakesSendable, DeclOk}
-use Rattle.pc_masks.specs.declared.mask.Mask.{Mask}
-use Rattle.pc_masks.specs.Masks.{has}
-use Rattle.pc_valid.specs.Words.{before, masks_after, AllSet}
-use Rattle.pc_valid.specs.Valid.{Meets, MeetsRule, KeepsWritten}
-use Rattle.pc_rules.specs.Parts.{constructs}
+use Rattle.pc_masks.specs.{declared.mask.Mask.Mask, Masks.has}
+use Rattle.pc_valid.specs.{Words.{before, masks_after, AllSet}, Valid.{Meets, MeetsRule, KeepsWritten}}
+use Rattle.pc_rules.specs.{Parts.constructs, Example.{four_slots, create_c, create_main, at, node_of, noted}}
 use Rattle.pc_rules.proofs.RecordWords.{constructs_iff, starts_to, ends_to}
-use Rattle.pc_rules.specs.Example.{four_slots, create_c, create_main, at, node_of, noted}
 use Rattle.pc_judge.specs.Faults as spec
 use Rattle.pc_judge.specs.Example as example
-use Rattle.pc_lists.proofs.Elements.{each_none}
-use Rattle.pc_lists.proofs.Bools.{true_false}
+use Rattle.pc_base.proofs.{Elements.each_none, Bools.true_false}
 
 -- ---- lists, element by element
 

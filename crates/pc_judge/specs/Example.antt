@@ -4,7 +4,7 @@
 --       new create(env: Env) =>
 --         let a: C iso = C
 use Rattle.std.specs.Prelude.{[], ◌∷◌, None, Some, slice_set}
-use Rattle.pc_core.specs.{declared.declarations.Method.Method, CoreData.CoreData, Entities.built_in, Entities.out_field}
+use Rattle.pc_core.specs.{declared.declarations.Method.Method, CoreData.CoreData, Entities.{built_in, out_field}}
 use Rattle.pc_ann.specs.declared.annotation.Ann.{Ann}
 use Rattle.pc_rules.specs.Example.{four_slots, derivation, at, node_of, noted}
 use Rattle.pc_judge.specs.Faults.{FirstAnnotationFault}

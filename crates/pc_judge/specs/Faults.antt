@@ -2,9 +2,9 @@
 use Rattle.std.specs.Prelude.{◌≡◌, ℕ, ◌<◌, length, Some, slice_get}
 use Rattle.pc_caps.specs.declared.capability.Cap.{Cap}
 use Rattle.pc_core.specs.{declared.declarations.Method.Method, declared.nodes.Slot.Slot, CoreData.CoreData}
-use Rattle.pc_lists.specs.Lists.{Each}
+use Rattle.pc_base.specs.Lists.{Each}
 use Rattle.pc_ann.specs.declared.annotation.Ann.{Ann}
-use Rattle.pc_sub.specs.{Declarations.DeclOk, FirstFault.FirstWithout, FirstFault.IsFirstDeclarationFault}
+use Rattle.pc_sub.specs.{Declarations.DeclOk, FirstFault.{FirstWithout, IsFirstDeclarationFault}}
 use Rattle.pc_valid.specs.Valid.{MeetsRule, KeepsWritten, SetsFields}
 use Rattle.pc_judge.specs.declared.faults.JudgeFault.{JudgeFault}
 use Rattle.pc_judge.specs.declared.faults.JudgeFault.TheVariants as fault

@@ -1,14 +1,9 @@
 -- Blanks that are skipped are pieces.
-use Rattle.std.proofs.Common.{◌≡◌, ℕ, ◌+◌, ◌<◌, Bool, true, false, ◌||◌, ◌==◌, List, [], ◌∷◌, length, get_or, take, drop, Ok, refl, ap, ◌∙◌, subst, inl}
-use Rattle.std.proofs.lemmas.Bool.{true≢false}
-use Rattle.std.proofs.lemmas.List.{drop_more}
+use Rattle.std.proofs.{Common.{◌≡◌, ℕ, ◌+◌, ◌<◌, Bool, true, false, ◌||◌, ◌==◌, List, [], ◌∷◌, length, get_or, take, drop, Ok, refl, ap, ◌∙◌, subst, inl}, lemmas.Bool.true≢false, lemmas.List.drop_more}
 use Rattle.pc_token.specs.declared.kinds.Token.{Token}
 use Rattle.pc_lex.specs.declared.pieces.Found.TheVariants as found
-use Rattle.pc_lex.specs.Pieces.{is_blank}
-use Rattle.pc_lex.specs.Parts.{has_line_end}
-use Rattle.pc_lex.specs.Reading.{piece_at, Passes, stays, blank}
-use Rattle.pc_lex.proofs.OneCut.{gap_read}
-use Rattle.pc_lex.proofs.Reached.{Sofar, goes_on}
+use Rattle.pc_lex.specs.{Pieces.is_blank, Parts.has_line_end, Reading.{piece_at, Passes, stays, blank}}
+use Rattle.pc_lex.proofs.{OneCut.gap_read, Reached.{Sofar, goes_on}}
 
 or_false : (t : Bool) → (t || false) ≡ t
 or_false true = refl

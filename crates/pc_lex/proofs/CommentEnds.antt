@@ -1,14 +1,9 @@
 -- Comments end where reading finds their end.
-use Rattle.std.proofs.Common.{◌≡◌, ℕ, zero, suc, ◌+◌, ◌-◌, ◌<◌, ◌≤◌, Bool, true, false, cond, ◌&&◌, ◌==◌, List, [], ◌∷◌, ◌++◌, length, get_or, take, drop, Some, refl, sym, ap, ap₂, ◌∙◌, subst, inl, inr, arith, length-append, append_assoc, drop_at, take-append-drop}
-use Rattle.std.proofs.lemmas.Bool.{and_parts, eqb-true}
-use Rattle.std.proofs.lemmas.Bool.Decides.{nat_tests}
+use Rattle.std.proofs.{Common.{◌≡◌, ℕ, zero, suc, ◌+◌, ◌-◌, ◌<◌, ◌≤◌, Bool, true, false, cond, ◌&&◌, ◌==◌, List, [], ◌∷◌, ◌++◌, length, get_or, take, drop, Some, refl, sym, ap, ap₂, ◌∙◌, subst, inl, inr, arith, length-append, append_assoc, drop_at, take-append-drop}, lemmas.Bool.{and_parts, eqb-true}, lemmas.Bool.Decides.nat_tests}
 use Rattle.std.specs.List.{prefix_len}
-use Rattle.pc_lex.specs.Pieces.{is_line, begins, ClosesComment, close, inner, other, AtLineEnd, IsGap}
-use Rattle.pc_lex.specs.Parts.{open_mark, line_mark}
-use Rattle.pc_lex.specs.Reading.{behind}
+use Rattle.pc_lex.specs.{Pieces.{is_line, begins, ClosesComment, close, inner, other, AtLineEnd, IsGap}, Parts.{open_mark, line_mark}, Reading.behind}
 use Rattle.pc_lex.proofs.Runs.{begins_cut}
-use Rattle.pc_lists.proofs.Prefixes.{run_all}
-use Rattle.pc_lists.proofs.Options.{none_some}
+use Rattle.pc_base.proofs.{Prefixes.run_all, Options.none_some}
 
 eq_sym : (a b : ℕ) → (a == b) ≡ (b == a)
 eq_sym a b = grind (arith, nat_tests)

@@ -1,10 +1,7 @@
 -- Digits at an index.
-use Rattle.std.proofs.Common.{◌≡◌, ℕ, ◌+◌, ◌*◌, ◌<◌, ◌≤◌, Bool, true, false, cond, ◌&&◌, ◌==◌, List, [], ◌∷◌, length, get_or, drop, refl, sym, ap, ◌∙◌, arith, drop-drop}
-use Rattle.std.proofs.lemmas.Bool.{and_parts, true≢false, ne_eqb}
-use Rattle.std.proofs.lemmas.List.{drop_more, drop_all}
+use Rattle.std.proofs.{Common.{◌≡◌, ℕ, ◌+◌, ◌*◌, ◌<◌, ◌≤◌, Bool, true, false, cond, ◌&&◌, ◌==◌, List, [], ◌∷◌, length, get_or, drop, refl, sym, ap, ◌∙◌, arith, drop-drop}, lemmas.Bool.{and_parts, true≢false, ne_eqb}, lemmas.List.{drop_more, drop_all}}
 use Rattle.std.specs.Char.{is_digit, digit_value}
-use Rattle.pc_lex.specs.Pieces.{first_test}
-use Rattle.pc_lex.specs.Reading.{more_len, digits_len, value_of}
+use Rattle.pc_lex.specs.{Pieces.first_test, Reading.{more_len, digits_len, value_of}}
 
 pub step : (base b : ℕ) (bs : List ℕ) → is_digit b base ≡ true → more_len base (b ∷ bs) ≡ 1 + more_len base bs
 unfolding more_len

@@ -1,8 +1,6 @@
 -- The end of a doc, at an index.
-use Rattle.std.proofs.Common.{◌≡◌, ℕ, ◌+◌, ◌<◌, ◌≤◌, cond, List, ◌∷◌, length, get_or, drop, Some, None, refl, sym, ap, ap₂, ◌∙◌, drop-drop}
-use Rattle.std.proofs.lemmas.List.{drop_more, drop_all}
-use Rattle.pc_lex.specs.Pieces.{begins_doc}
-use Rattle.pc_lex.specs.TextReading.{doc_behind}
+use Rattle.std.proofs.{Common.{◌≡◌, ℕ, ◌+◌, ◌<◌, ◌≤◌, cond, List, ◌∷◌, length, get_or, drop, Some, None, refl, sym, ap, ap₂, ◌∙◌, drop-drop}, lemmas.List.{drop_more, drop_all}}
+use Rattle.pc_lex.specs.{Pieces.begins_doc, TextReading.doc_behind}
 
 here : (b : ℕ) (bs : List ℕ) → doc_behind (b ∷ bs) ≡ cond (begins_doc (b ∷ bs)) (Some (drop 3 (b ∷ bs))) (doc_behind bs)
 unfolding doc_behind

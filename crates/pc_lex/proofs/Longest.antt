@@ -1,23 +1,12 @@
 -- No longer prefix is a token.
-use Rattle.std.proofs.Common.{◌≡◌, ℕ, ◌^◌, ◌<◌, ◌≤◌, Bool, true, false, not, cond, ◌&&◌, ◌||◌, ◌==◌, List, [], ◌∷◌, ◌++◌, length, Some, refl, sym, ap, ◌∙◌, subst, inl, inr, ◌⊎◌, arith, length-append}
-use Rattle.std.specs.Prelude.{nat_eq, nat_lt}
-use Rattle.std.proofs.lemmas.Bool.{and_parts, true≢false, not-true, ltb-true, or_parts}
-use Rattle.std.proofs.lemmas.Bool.Decides.{nat_tests}
-use Rattle.std.specs.List.{starts_with}
-use Rattle.std.specs.Char.{is_ascii_lowercase, is_ascii_uppercase, is_ascii_digit}
-use Rattle.pc_token.specs.declared.signs.Sign.{Sign}
-use Rattle.pc_token.specs.declared.kinds.TokenKind.{TokenKind}
+use Rattle.std.proofs.{Common.{◌≡◌, ℕ, ◌^◌, ◌<◌, ◌≤◌, Bool, true, false, not, cond, ◌&&◌, ◌||◌, ◌==◌, List, [], ◌∷◌, ◌++◌, length, Some, refl, sym, ap, ◌∙◌, subst, inl, inr, ◌⊎◌, arith, length-append}, lemmas.Bool.{and_parts, true≢false, not-true, ltb-true, or_parts}, lemmas.Bool.Decides.nat_tests}
+use Rattle.std.specs.{Prelude.{nat_eq, nat_lt}, List.starts_with, Char.{is_ascii_lowercase, is_ascii_uppercase, is_ascii_digit}}
+use Rattle.pc_token.specs.{declared.signs.Sign.Sign, declared.kinds.TokenKind.TokenKind, Words.sign_text, Finding.sign_at}
 use Rattle.pc_token.specs.declared.kinds.TokenKind.TheVariants as kinds
-use Rattle.pc_token.specs.Words.{sign_text}
-use Rattle.pc_token.specs.Finding.{sign_at}
-use Rattle.pc_lex.specs.Pieces.{is_letter, first_test, TextBytes, DocBytes, NameText, SpellsToken, NumberText}
-use Rattle.pc_lex.specs.Faults.{is_quote}
-use Rattle.pc_lex.specs.Reading.{letter_len, under_len, name_len}
-use Rattle.pc_lists.proofs.Prefixes.{begins_own}
+use Rattle.pc_lex.specs.{Pieces.{is_letter, first_test, TextBytes, DocBytes, NameText, SpellsToken, NumberText}, Faults.is_quote, Reading.{letter_len, under_len, name_len}}
+use Rattle.pc_base.proofs.Prefixes.{begins_own}
 use Rattle.pc_token.proofs.SignFacts.{each_sign, sign_max}
-use Rattle.pc_lex.proofs.WordReading.{spelled_word}
-use Rattle.pc_lex.proofs.NumberReading.{number_starts, number_some}
-use Rattle.pc_lex.proofs.NameReading.{name_max, letter_is}
+use Rattle.pc_lex.proofs.{WordReading.spelled_word, NumberReading.{number_starts, number_some}, NameReading.{name_max, letter_is}}
 
 abbrev pub is_start : ℕ → Bool
 is_start b = is_letter b || b == 95

@@ -1,13 +1,8 @@
 -- The length of a name is that of the longest one.
-use Rattle.std.proofs.Common.{◌≡◌, ℕ, zero, suc, ◌+◌, ◌<◌, ◌≤◌, Bool, true, false, cond, ◌==◌, List, [], ◌∷◌, ◌++◌, length, take, drop, refl, sym, ap, ap₂, ◌∙◌, subst, inl, inr, arith, ◌⊎◌, take-add, length-append, length-drop, append_assoc, drop_at}
-use Rattle.std.proofs.lemmas.Bool.{and_parts, eqb-true}
-use Rattle.std.proofs.lemmas.Bool.Decides.{nat_tests}
-use Rattle.std.specs.List.{prefix_len, list_all}
-use Rattle.std.specs.Char.{is_ascii_lowercase, is_ascii_uppercase}
-use Rattle.pc_lex.specs.Pieces.{is_letter, is_tail, is_prime, NameText}
-use Rattle.pc_lex.specs.Reading.{tail_len, letter_len, under_len, name_len, is_type}
-use Rattle.std.proofs.lemmas.List.Sums.{prefix_len-le-length}
-use Rattle.pc_lists.proofs.Prefixes.{run_app, run_all}
+use Rattle.std.proofs.{Common.{◌≡◌, ℕ, zero, suc, ◌+◌, ◌<◌, ◌≤◌, Bool, true, false, cond, ◌==◌, List, [], ◌∷◌, ◌++◌, length, take, drop, refl, sym, ap, ap₂, ◌∙◌, subst, inl, inr, arith, ◌⊎◌, take-add, length-append, length-drop, append_assoc, drop_at}, lemmas.Bool.{and_parts, eqb-true}, lemmas.Bool.Decides.nat_tests, lemmas.List.Sums.prefix_len-le-length}
+use Rattle.std.specs.{List.{prefix_len, list_all}, Char.{is_ascii_lowercase, is_ascii_uppercase}}
+use Rattle.pc_lex.specs.{Pieces.{is_letter, is_tail, is_prime, NameText}, Reading.{tail_len, letter_len, under_len, name_len, is_type}}
+use Rattle.pc_base.proofs.Prefixes.{run_app, run_all}
 
 run_none : (p : ℕ → Bool) (x : ℕ) (xs : List ℕ) → p x ≡ false → prefix_len p (x ∷ xs) ≡ 0
 run_none p x xs e = rw e refl

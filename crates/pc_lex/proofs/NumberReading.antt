@@ -1,14 +1,8 @@
 -- The length of a number is that of the longest one.
-use Rattle.std.proofs.Common.{◌≡◌, ℕ, zero, suc, ◌+◌, ◌*◌, ◌<◌, ◌≤◌, Bool, true, false, cond, ◌&&◌, ◌==◌, List, [], ◌∷◌, ◌++◌, length, take, drop, refl, sym, ap, ap₂, ◌∙◌, subst, inl, inr, ◌⊎◌, arith, length-append, append_assoc, append-nil, take-add, take_at, drop_at}
-use Rattle.std.proofs.lemmas.Bool.{and_parts, true≢false, eqb-true, cases_lt}
-use Rattle.std.proofs.lemmas.Bool.Decides.{nat_tests}
-use Rattle.std.specs.List.{list_all}
-use Rattle.std.specs.Char.{is_digit, digit_value, is_ascii_digit}
-use Rattle.pc_lex.specs.Pieces.{first_test, is_tail, is_joined, begins, Digits, one, next, spaced, value_of_digits, DigitsOf, NumberText}
-use Rattle.pc_lex.specs.Parts.{hex_mark, bin_mark}
-use Rattle.pc_lex.specs.Reading.{more_len, digits_len, value_of, base_at}
-use Rattle.pc_lex.proofs.DigitSteps.{step, space, ends, len_first}
-use Rattle.pc_lex.proofs.CommentEnds.{behind_word}
+use Rattle.std.proofs.{Common.{◌≡◌, ℕ, zero, suc, ◌+◌, ◌*◌, ◌<◌, ◌≤◌, Bool, true, false, cond, ◌&&◌, ◌==◌, List, [], ◌∷◌, ◌++◌, length, take, drop, refl, sym, ap, ap₂, ◌∙◌, subst, inl, inr, ◌⊎◌, arith, length-append, append_assoc, append-nil, take-add, take_at, drop_at}, lemmas.Bool.{and_parts, true≢false, eqb-true, cases_lt}, lemmas.Bool.Decides.nat_tests}
+use Rattle.std.specs.{List.list_all, Char.{is_digit, digit_value, is_ascii_digit}}
+use Rattle.pc_lex.specs.{Pieces.{first_test, is_tail, is_joined, begins, Digits, one, next, spaced, value_of_digits, DigitsOf, NumberText}, Parts.{hex_mark, bin_mark}, Reading.{more_len, digits_len, value_of, base_at}}
+use Rattle.pc_lex.proofs.{DigitSteps.{step, space, ends, len_first}, CommentEnds.behind_word}
 
 digit_no_under : (b base : ℕ) → base ≤ 36 → is_digit b base ≡ true → (b == 95) ≡ false
 digit_no_under b base small e = grind (arith, nat_tests)

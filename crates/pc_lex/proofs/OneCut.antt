@@ -1,38 +1,14 @@
 -- A text is cut into pieces in only one way.
-use Rattle.std.proofs.Common.{◌≡◌, ℕ, ◌+◌, ◌-◌, ◌<◌, Bool, true, false, not, cond, ◌==◌, List, [], ◌∷◌, ◌++◌, length, take, drop, Option, Some, None, Result, Ok, Err, refl, sym, ap, ap₂, ◌∙◌, subst, inl, inr, ◌⊎◌, arith, length-append, append-nil, take_at, take-append-drop, length-take-le}
-use Rattle.std.proofs.lemmas.Bool.{true≢false, not-true, or_parts}
-use Rattle.std.proofs.lemmas.Bool.Decides.{nat_tests}
-use Rattle.std.specs.List.{prefix_len}
-use Rattle.std.specs.Char.{is_ascii_lowercase, is_ascii_uppercase, is_ascii_digit}
-use Rattle.pc_token.specs.declared.signs.Sign.{Sign}
-use Rattle.pc_token.specs.declared.kinds.Token.{Token}
-use Rattle.pc_token.specs.declared.kinds.TokenKind.{TokenKind}
+use Rattle.std.proofs.{Common.{◌≡◌, ℕ, ◌+◌, ◌-◌, ◌<◌, Bool, true, false, not, cond, ◌==◌, List, [], ◌∷◌, ◌++◌, length, take, drop, Option, Some, None, Result, Ok, Err, refl, sym, ap, ap₂, ◌∙◌, subst, inl, inr, ◌⊎◌, arith, length-append, append-nil, take_at, take-append-drop, length-take-le}, lemmas.Bool.{true≢false, not-true, or_parts}, lemmas.Bool.Decides.nat_tests}
+use Rattle.std.specs.{List.prefix_len, Char.{is_ascii_lowercase, is_ascii_uppercase, is_ascii_digit}}
+use Rattle.pc_token.specs.{declared.signs.Sign.Sign, declared.kinds.Token.Token, declared.kinds.TokenKind.TokenKind, Finding.{word_of, sign_at}, Words.sign_text}
 use Rattle.pc_token.specs.declared.kinds.TokenKind.TheVariants as kinds
-use Rattle.pc_token.specs.Finding.{word_of, sign_at}
-use Rattle.pc_token.specs.Words.{sign_text}
-use Rattle.pc_lex.specs.declared.pieces.Found.{Found}
+use Rattle.pc_lex.specs.{declared.pieces.Found.Found, declared.pieces.LexStop.LexStop, Pieces.{first_test, is_blank, is_line, is_letter, begins_comment, begins_doc, TextBytes, NameText, SpellsToken, Piece, gap, token, bytes_of, IsPiece, IsToken, IsGap, AtLineEnd, Pieces, tokens_of, Tokens}, Faults.{is_quote, NoPiece}, TextReading.unescape, Reading.{is_type, name_kind, behind, value_of, digits_len, base_at, between, piece_at}}
 use Rattle.pc_lex.specs.declared.pieces.Found.TheVariants as found
-use Rattle.pc_lex.specs.declared.pieces.LexStop.{LexStop}
 use Rattle.pc_lex.specs.declared.pieces.LexStop.TheVariants as stop
-use Rattle.pc_lex.specs.Pieces.{first_test, is_blank, is_line, is_letter, begins_comment, begins_doc, TextBytes, NameText, SpellsToken, Piece, gap, token, bytes_of, IsPiece, IsToken, IsGap, AtLineEnd, Pieces, tokens_of, Tokens}
-use Rattle.pc_lex.specs.Faults.{is_quote, NoPiece}
-use Rattle.pc_lex.specs.TextReading.{unescape}
-use Rattle.pc_lex.specs.Reading.{is_type, name_kind, behind, value_of, digits_len, base_at, between, piece_at}
-use Rattle.pc_lists.proofs.Prefixes.{run_app}
-use Rattle.pc_lex.proofs.CommentSteps.{behind_all}
-use Rattle.pc_token.proofs.SignFacts.{each_sign, sign_own}
-use Rattle.pc_token.proofs.WordFacts.{word_found, none_found}
-use Rattle.pc_lex.proofs.WordReading.{spelled_word}
-use Rattle.pc_lex.proofs.NameReading.{type_plain}
-use Rattle.pc_lex.proofs.CommentEnds.{closes_suffix, closes_behind}
-use Rattle.pc_lex.proofs.NumberReading.{Based, based, digits, total, number_max, total_within, number_starts}
-use Rattle.pc_lex.proofs.Longest.{small_letter, capital_letter, is_start, apart, sign_some, spelled_some, Quoted, text_quoted, doc_quoted, quoted_first, quote_none}
-use Rattle.pc_lex.proofs.PieceRight.{piece_of, Right}
-use Rattle.pc_lex.proofs.PieceReading.{piece_right}
-use Rattle.pc_lex.proofs.QuotedBytes.{whole, doc_begins}
-use Rattle.pc_lex.proofs.QuoteReading.{short_text}
-use Rattle.pc_lex.proofs.TextValues.{value_read}
-use Rattle.pc_lists.proofs.Cuts.{same_cut}
+use Rattle.pc_base.proofs.{Prefixes.run_app, Cuts.same_cut}
+use Rattle.pc_lex.proofs.{CommentSteps.behind_all, WordReading.spelled_word, NameReading.type_plain, CommentEnds.{closes_suffix, closes_behind}, NumberReading.{Based, based, digits, total, number_max, total_within, number_starts}, Longest.{small_letter, capital_letter, is_start, apart, sign_some, spelled_some, Quoted, text_quoted, doc_quoted, quoted_first, quote_none}, PieceRight.{piece_of, Right}, PieceReading.piece_right, QuotedBytes.{whole, doc_begins}, QuoteReading.short_text, TextValues.value_read}
+use Rattle.pc_token.proofs.{SignFacts.{each_sign, sign_own}, WordFacts.{word_found, none_found}}
 
 -- a gap is read with its length
 line_none : (rest : List ℕ) → AtLineEnd rest → prefix_len is_line rest ≡ 0

@@ -1,21 +1,10 @@
 -- A text has only one first fault.
-use Rattle.std.proofs.Common.{◌≡◌, ℕ, ◌≤◌, true, false, cond, List, [], ◌∷◌, ◌++◌, length, refl, sym, ap, ap₂, ◌∙◌, subst, inl, inr, ◌⊎◌, arith, Result, Ok, Err, Option, Some, None, drop, ◌+◌, ◌-◌}
-use Rattle.std.proofs.lemmas.Bool.Decides.{nat_tests}
+use Rattle.std.proofs.{Common.{◌≡◌, ℕ, ◌≤◌, true, false, cond, List, [], ◌∷◌, ◌++◌, length, refl, sym, ap, ap₂, ◌∙◌, subst, inl, inr, ◌⊎◌, arith, Result, Ok, Err, Option, Some, None, drop, ◌+◌, ◌-◌}, lemmas.Bool.Decides.nat_tests}
 use Rattle.std.specs.Char.{is_ascii_digit}
 use Rattle.pc_token.specs.declared.kinds.TokenKind.{TokenKind}
-use Rattle.pc_lex.specs.declared.fault.LexFault.{LexFault}
+use Rattle.pc_lex.specs.{declared.fault.LexFault.LexFault, Pieces.{first_test, begins, begins_doc, Piece, gap, token, IsToken, Pieces}, Parts.open_mark, Faults.{is_quote, NeverEnds, BadEscapeIn, OpensCommentOrText, NoPiece, count, Faulty, FaultAfter, TokenAfter, FirstLexFault}, TextReading.{text_behind, unescape}, Reading.between}
 use Rattle.pc_lex.specs.declared.fault.LexFault.TheVariants as fault
-use Rattle.pc_lex.specs.Pieces.{first_test, begins, begins_doc, Piece, gap, token, IsToken, Pieces}
-use Rattle.pc_lex.specs.Parts.{open_mark}
-use Rattle.pc_lex.specs.Faults.{is_quote, NeverEnds, BadEscapeIn, OpensCommentOrText, NoPiece, count, Faulty, FaultAfter, TokenAfter, FirstLexFault}
-use Rattle.pc_lex.specs.TextReading.{text_behind, unescape}
-use Rattle.pc_lex.specs.Reading.{between}
-use Rattle.pc_lex.proofs.Longest.{quote_none}
-use Rattle.pc_lex.proofs.QuoteEnds.{behind_covered}
-use Rattle.pc_lex.proofs.QuotedBytes.{no_doc, doc_quote, quote_cut}
-use Rattle.pc_lex.proofs.QuoteReading.{behind_is, inner}
-use Rattle.pc_lex.proofs.TextValues.{bad_read}
-use Rattle.pc_lex.proofs.OneCut.{piece_one, same_stop}
+use Rattle.pc_lex.proofs.{Longest.quote_none, QuoteEnds.behind_covered, QuotedBytes.{no_doc, doc_quote, quote_cut}, QuoteReading.{behind_is, inner}, TextValues.bad_read, OneCut.{piece_one, same_stop}}
 
 pub gap_token : (g b : List ℕ) (kind : TokenKind) → gap g ≡ token kind b → ⊥
 gap_token g b kind e = cc

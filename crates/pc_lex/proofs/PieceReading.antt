@@ -1,34 +1,14 @@
 -- What is read is a piece, and if none is read there is none.
-use Rattle.std.proofs.Common.{◌≡◌, ℕ, zero, suc, ◌+◌, ◌^◌, ◌<◌, ◌≤◌, Bool, true, false, cond, List, [], ◌∷◌, ◌++◌, length, take, drop, Option, Some, None, Ok, Err, refl, sym, ap, ◌∙◌, subst, inl, inr, ◌⊎◌, arith, length-append, drop_at}
-use Rattle.std.specs.Prelude.{nat_lt}
-use Rattle.std.proofs.lemmas.Bool.{true≢false, ltb-true, ltb-false, or_right}
-use Rattle.std.specs.List.{prefix_len}
-use Rattle.std.specs.Char.{is_ascii_digit}
-use Rattle.pc_token.specs.declared.signs.Sign.{Sign}
-use Rattle.pc_token.specs.declared.words.Word.{Word}
-use Rattle.pc_token.specs.declared.kinds.TokenKind.{TokenKind}
+use Rattle.std.proofs.{Common.{◌≡◌, ℕ, zero, suc, ◌+◌, ◌^◌, ◌<◌, ◌≤◌, Bool, true, false, cond, List, [], ◌∷◌, ◌++◌, length, take, drop, Option, Some, None, Ok, Err, refl, sym, ap, ◌∙◌, subst, inl, inr, ◌⊎◌, arith, length-append, drop_at}, lemmas.Bool.{true≢false, ltb-true, ltb-false, or_right}, lemmas.List.Sums.prefix_len-le-length}
+use Rattle.std.specs.{Prelude.nat_lt, List.prefix_len, Char.is_ascii_digit}
+use Rattle.pc_token.specs.{declared.signs.Sign.Sign, declared.words.Word.Word, declared.kinds.TokenKind.TokenKind, Finding.{word_of, sign_at}, Words.sign_text}
 use Rattle.pc_token.specs.declared.kinds.TokenKind.TheVariants as kinds
-use Rattle.pc_token.specs.Finding.{word_of, sign_at}
-use Rattle.pc_token.specs.Words.{sign_text}
 use Rattle.pc_lex.specs.declared.pieces.Found.TheVariants as found
 use Rattle.pc_lex.specs.declared.pieces.LexStop.TheVariants as stop
-use Rattle.pc_lex.specs.Pieces.{first_test, is_joined, is_blank, is_line, begins, begins_comment, begins_doc, EndsWell, NameText, SpellsToken, gap, token, IsGap}
-use Rattle.pc_lex.specs.Parts.{line_mark, open_mark}
-use Rattle.pc_lex.specs.Faults.{is_quote, NoPiece}
-use Rattle.pc_lex.specs.Reading.{value_of, digits_len, number_or, number_of, number_at, name_len, is_type, word_kind, name_kind, behind, block_at, sign_or, name_or_sign, doc_at, text_at, piece_at}
-use Rattle.std.proofs.lemmas.List.Sums.{prefix_len-le-length}
-use Rattle.pc_lex.proofs.CommentSteps.{behind_all}
-use Rattle.pc_lex.proofs.Runs.{begins_cut}
-use Rattle.pc_token.proofs.SignFacts.{sign_sound}
-use Rattle.pc_token.proofs.WordFacts.{word_sound, word_none}
-use Rattle.pc_lex.proofs.NumberReading.{Based, based, digits, total, number_max, goes_into, total_within, total_some, number_text}
-use Rattle.pc_lex.proofs.NameReading.{name_sound, name_within, head_test}
-use Rattle.pc_lex.proofs.CommentEnds.{line_gap, block_gap, closes_behind, behind_word}
-use Rattle.pc_lists.proofs.Options.{none_some}
-use Rattle.pc_lex.proofs.Longest.{digit_only, name_longest, sign_longest, spelled_some, sign_some, quote_none}
-use Rattle.pc_lex.proofs.PieceRight.{Right, token_right, first_blank, gap_no, never_gap}
-use Rattle.pc_lex.proofs.QuotedBytes.{no_doc, doc_quote}
-use Rattle.pc_lex.proofs.QuoteReading.{right_doc, right_text}
+use Rattle.pc_lex.specs.{Pieces.{first_test, is_joined, is_blank, is_line, begins, begins_comment, begins_doc, EndsWell, NameText, SpellsToken, gap, token, IsGap}, Parts.{line_mark, open_mark}, Faults.{is_quote, NoPiece}, Reading.{value_of, digits_len, number_or, number_of, number_at, name_len, is_type, word_kind, name_kind, behind, block_at, sign_or, name_or_sign, doc_at, text_at, piece_at}}
+use Rattle.pc_lex.proofs.{CommentSteps.behind_all, Runs.begins_cut, NumberReading.{Based, based, digits, total, number_max, goes_into, total_within, total_some, number_text}, NameReading.{name_sound, name_within, head_test}, CommentEnds.{line_gap, block_gap, closes_behind, behind_word}, Longest.{digit_only, name_longest, sign_longest, spelled_some, sign_some, quote_none}, PieceRight.{Right, token_right, first_blank, gap_no, never_gap}, QuotedBytes.{no_doc, doc_quote}, QuoteReading.{right_doc, right_text}}
+use Rattle.pc_token.proofs.{SignFacts.sign_sound, WordFacts.{word_sound, word_none}}
+use Rattle.pc_base.proofs.Options.{none_some}
 
 -- if there is no quote, no doc begins
 no_doc_kind : (text : List ℕ) (kind : TokenKind) → first_test is_quote text ≡ false → begins_doc text ≡ true → kind ≡ kinds.Doc

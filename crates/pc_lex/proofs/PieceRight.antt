@@ -1,16 +1,11 @@
 -- What it means that a piece is read correctly.
-use Rattle.std.proofs.Common.{◌≡◌, ℕ, ◌<◌, ◌≤◌, Bool, true, false, List, [], ◌∷◌, ◌++◌, length, take, drop, Result, Ok, Err, refl, sym, ap, ◌∙◌, subst, inl, inr, arith, take-append-drop, length-take-le}
-use Rattle.std.proofs.lemmas.Bool.{true≢false}
+use Rattle.std.proofs.{Common.{◌≡◌, ℕ, ◌<◌, ◌≤◌, Bool, true, false, List, [], ◌∷◌, ◌++◌, length, take, drop, Result, Ok, Err, refl, sym, ap, ◌∙◌, subst, inl, inr, arith, take-append-drop, length-take-le}, lemmas.Bool.true≢false}
 use Rattle.std.specs.Char.{is_ascii_digit}
 use Rattle.pc_token.specs.declared.kinds.TokenKind.{TokenKind}
 use Rattle.pc_token.specs.declared.kinds.TokenKind.TheVariants as kinds
-use Rattle.pc_lex.specs.declared.pieces.Found.{Found}
+use Rattle.pc_lex.specs.{declared.pieces.Found.Found, declared.pieces.LexStop.LexStop, Pieces.{first_test, is_blank, begins, begins_comment, begins_doc, EndsWell, SpellsToken, Piece, gap, token, IsPiece, IsGap, ClosesComment}, Parts.{line_mark, open_mark}, Faults.{is_quote, BadEscapeIn, OpensCommentOrText, NoPiece}}
 use Rattle.pc_lex.specs.declared.pieces.Found.TheVariants as found
-use Rattle.pc_lex.specs.declared.pieces.LexStop.{LexStop}
 use Rattle.pc_lex.specs.declared.pieces.LexStop.TheVariants as stop
-use Rattle.pc_lex.specs.Pieces.{first_test, is_blank, begins, begins_comment, begins_doc, EndsWell, SpellsToken, Piece, gap, token, IsPiece, IsGap, ClosesComment}
-use Rattle.pc_lex.specs.Parts.{line_mark, open_mark}
-use Rattle.pc_lex.specs.Faults.{is_quote, BadEscapeIn, OpensCommentOrText, NoPiece}
 
 abbrev pub piece_of : Found → List ℕ → Piece
 piece_of found.Gap b = gap b

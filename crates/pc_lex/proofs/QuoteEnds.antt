@@ -1,10 +1,6 @@
 -- The end of a text literal, at an index and by the definition.
-use Rattle.std.proofs.Common.{◌≡◌, ℕ, ◌+◌, ◌<◌, ◌≤◌, Bool, true, false, cond, ◌==◌, List, [], ◌∷◌, ◌++◌, length, get_or, drop, Some, None, refl, sym, ap, ap₂, ◌∙◌, arith, drop-drop}
-use Rattle.std.proofs.lemmas.List.{drop_more, drop_all}
-use Rattle.std.proofs.lemmas.Bool.{eqb-true}
-use Rattle.std.proofs.lemmas.Bool.Decides.{nat_tests}
-use Rattle.pc_lex.specs.Pieces.{is_plain, BetweenQuotes, nothing, plain, covered}
-use Rattle.pc_lex.specs.TextReading.{text_behind, width}
+use Rattle.std.proofs.{Common.{◌≡◌, ℕ, ◌+◌, ◌<◌, ◌≤◌, Bool, true, false, cond, ◌==◌, List, [], ◌∷◌, ◌++◌, length, get_or, drop, Some, None, refl, sym, ap, ap₂, ◌∙◌, arith, drop-drop}, lemmas.List.{drop_more, drop_all}, lemmas.Bool.eqb-true, lemmas.Bool.Decides.nat_tests}
+use Rattle.pc_lex.specs.{Pieces.{is_plain, BetweenQuotes, nothing, plain, covered}, TextReading.{text_behind, width}}
 
 one : (b : ℕ) (bs : List ℕ) → text_behind (b ∷ bs) ≡ cond (b == 34) (Some bs) (text_behind (drop (width b) (b ∷ bs)))
 unfolding text_behind

@@ -1,21 +1,10 @@
 -- If there is a quote, what is read is a text literal or a doc, and if none is read there is none.
-use Rattle.std.proofs.Common.{◌≡◌, ℕ, ◌+◌, ◌-◌, ◌≤◌, true, false, List, [], ◌∷◌, ◌++◌, length, take, drop, Option, Some, None, Result, Ok, Err, refl, sym, ap, ap₂, ◌∙◌, subst, inl, inr, ◌⊎◌, arith, length-append, append_assoc, take_at}
-use Rattle.std.proofs.lemmas.Bool.{true≢false}
+use Rattle.std.proofs.{Common.{◌≡◌, ℕ, ◌+◌, ◌-◌, ◌≤◌, true, false, List, [], ◌∷◌, ◌++◌, length, take, drop, Option, Some, None, Result, Ok, Err, refl, sym, ap, ap₂, ◌∙◌, subst, inl, inr, ◌⊎◌, arith, length-append, append_assoc, take_at}, lemmas.Bool.true≢false, lemmas.Option.same_Some}
 use Rattle.pc_token.specs.declared.kinds.TokenKind.{TokenKind}
 use Rattle.pc_token.specs.declared.kinds.TokenKind.TheVariants as kinds
-use Rattle.pc_lex.specs.Pieces.{first_test, begins, begins_doc, BetweenQuotes, Written, TextBytes, DocBytes, SpellsToken, gap, token}
-use Rattle.pc_lex.specs.Parts.{line_mark, open_mark}
-use Rattle.pc_lex.specs.Faults.{is_quote, NeverEnds, NoPiece}
-use Rattle.pc_lex.specs.TextReading.{text_behind, doc_behind, unescape}
-use Rattle.pc_lex.specs.Reading.{doc_or, value_or, between, text_or, text_at, doc_at}
-use Rattle.pc_lex.proofs.PieceRight.{Right, token_right, first_blank, never_gap}
-use Rattle.pc_lex.proofs.Longest.{quote_only}
-use Rattle.pc_lex.proofs.QuoteEnds.{covered_behind, behind_covered}
-use Rattle.pc_lex.proofs.QuotedBytes.{written_covered, doc_read, doc_ends, whole, doc_split, covered_first, doc_quote, doc_begins, quote_cut}
-use Rattle.pc_lex.proofs.TextValues.{IsRead, read_right, value_read}
-use Rattle.pc_lists.proofs.Cuts.{same_cut}
-use Rattle.pc_lists.proofs.Options.{none_some}
-use Rattle.std.proofs.lemmas.Option.{same_Some}
+use Rattle.pc_lex.specs.{Pieces.{first_test, begins, begins_doc, BetweenQuotes, Written, TextBytes, DocBytes, SpellsToken, gap, token}, Parts.{line_mark, open_mark}, Faults.{is_quote, NeverEnds, NoPiece}, TextReading.{text_behind, doc_behind, unescape}, Reading.{doc_or, value_or, between, text_or, text_at, doc_at}}
+use Rattle.pc_lex.proofs.{PieceRight.{Right, token_right, first_blank, never_gap}, Longest.quote_only, QuoteEnds.{covered_behind, behind_covered}, QuotedBytes.{written_covered, doc_read, doc_ends, whole, doc_split, covered_first, doc_quote, doc_begins, quote_cut}, TextValues.{IsRead, read_right, value_read}}
+use Rattle.pc_base.proofs.{Cuts.same_cut, Options.none_some}
 
 ok_err : {A B : Type 0} {x : A} {y : B} → Ok x ≡ Err y → ⊥
 ok_err e = cc

@@ -1,12 +1,7 @@
 -- What makes a text literal or a doc the longest token.
-use Rattle.std.proofs.Common.{◌≡◌, ℕ, ◌≤◌, Bool, true, false, cond, ◌&&◌, ◌==◌, List, [], ◌∷◌, ◌++◌, length, drop, Some, refl, sym, ap, ap₂, ◌∙◌, subst, inl, inr, arith}
-use Rattle.std.proofs.lemmas.Bool.{true≢false, and_parts, eqb-true}
-use Rattle.std.specs.Prelude.{nat_eq}
-use Rattle.std.proofs.lemmas.Bool.Decides.{nat_tests}
-use Rattle.std.specs.Char.{is_digit}
-use Rattle.pc_lex.specs.Pieces.{first_test, is_plain, BetweenQuotes, nothing, plain, covered, Writes, Written, DocEnds, ends, other, begins_doc, DocBytes}
-use Rattle.pc_lex.specs.Faults.{is_quote}
-use Rattle.pc_lex.specs.TextReading.{doc_behind}
+use Rattle.std.proofs.{Common.{◌≡◌, ℕ, ◌≤◌, Bool, true, false, cond, ◌&&◌, ◌==◌, List, [], ◌∷◌, ◌++◌, length, drop, Some, refl, sym, ap, ap₂, ◌∙◌, subst, inl, inr, arith}, lemmas.Bool.{true≢false, and_parts, eqb-true}, lemmas.Bool.Decides.nat_tests}
+use Rattle.std.specs.{Prelude.nat_eq, Char.is_digit}
+use Rattle.pc_lex.specs.{Pieces.{first_test, is_plain, BetweenQuotes, nothing, plain, covered, Writes, Written, DocEnds, ends, other, begins_doc, DocBytes}, Faults.is_quote, TextReading.doc_behind}
 
 hex_plain : (b : ℕ) → is_digit b 16 ≡ true → is_plain b ≡ true
 hex_plain b e = grind (arith, nat_tests)

@@ -1,20 +1,12 @@
 -- The pieces that have been read.
-use Rattle.std.proofs.Common.{◌≡◌, ℕ, ◌+◌, ◌<◌, ◌≤◌, Bool, true, false, List, [], ◌∷◌, ◌++◌, length, take, drop, Ok, Err, refl, sym, ap, ◌∙◌, subst, arith, length-append, append_assoc, append-nil, take-append-drop, drop-drop, length-drop, length-take-le}
-use Rattle.std.proofs.lemmas.List.{drop_all}
-use Rattle.std.proofs.lemmas.Bool.{true≢false}
+use Rattle.std.proofs.{Common.{◌≡◌, ℕ, ◌+◌, ◌<◌, ◌≤◌, Bool, true, false, List, [], ◌∷◌, ◌++◌, length, take, drop, Ok, Err, refl, sym, ap, ◌∙◌, subst, arith, length-append, append_assoc, append-nil, take-append-drop, drop-drop, length-drop, length-take-le}, lemmas.List.drop_all, lemmas.Bool.true≢false}
 use Rattle.pc_token.specs.declared.kinds.Token.{Token}
 use Rattle.pc_token.specs.declared.kinds.TokenKind.TheVariants as kinds
-use Rattle.pc_lex.specs.declared.fault.LexFault.{LexFault}
+use Rattle.pc_lex.specs.{declared.fault.LexFault.LexFault, declared.pieces.Found.Found, Pieces.{Piece, gap, token, bytes_of, IsPiece, Pieces, tokens_of, Tokens, token_limit}, Faults.{count, FirstLexFault}, Refusals.RefusesTokens, Reading.{piece_at, step_of, is_gap, Steps, Stuck}}
 use Rattle.pc_lex.specs.declared.fault.LexFault.TheVariants as fault
-use Rattle.pc_lex.specs.declared.pieces.Found.{Found}
 use Rattle.pc_lex.specs.declared.pieces.Found.TheVariants as found
 use Rattle.pc_lex.specs.declared.pieces.LexStop.TheVariants as stop
-use Rattle.pc_lex.specs.Pieces.{Piece, gap, token, bytes_of, IsPiece, Pieces, tokens_of, Tokens, token_limit}
-use Rattle.pc_lex.specs.Faults.{count, FirstLexFault}
-use Rattle.pc_lex.specs.Refusals.{RefusesTokens}
-use Rattle.pc_lex.specs.Reading.{piece_at, step_of, is_gap, Steps, Stuck}
-use Rattle.pc_lex.proofs.PieceRight.{piece_of, Right}
-use Rattle.pc_lex.proofs.PieceReading.{piece_right}
+use Rattle.pc_lex.proofs.{PieceRight.{piece_of, Right}, PieceReading.piece_right}
 
 pub record Sofar (text : List ℕ) (at : ℕ) (first : Bool) (ts : List Token) : Type 0 where
   pub pieces : List Piece

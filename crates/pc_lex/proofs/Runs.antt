@@ -1,8 +1,6 @@
 -- Runs of bytes, and how a text begins.
-use Rattle.std.proofs.Common.{◌≡◌, ℕ, true, List, [], ◌∷◌, length, take, refl, sym, ap₂}
-use Rattle.std.specs.Prelude.{nat_eq}
-use Rattle.std.proofs.lemmas.Bool.{and_parts, true≢false, eqb-true}
-use Rattle.std.specs.List.{starts_with}
+use Rattle.std.proofs.{Common.{◌≡◌, ℕ, true, List, [], ◌∷◌, length, take, refl, sym, ap₂}, lemmas.Bool.{and_parts, true≢false, eqb-true}}
+use Rattle.std.specs.{Prelude.nat_eq, List.starts_with}
 
 pub begins_cut : (text word : List ℕ) → starts_with nat_eq text word ≡ true → take (length word) text ≡ word
 begins_cut text [] e = refl

@@ -1,7 +1,6 @@
 -- The length of a text literal, from where its closing quote is.
 use Rattle.std.proofs.Common.{◌≡◌, ℕ, ◌+◌, ◌-◌, ◌<◌, List, length, take, drop, Some, sym, ap, ap₂, ◌∙◌, arith, length-drop}
-use Rattle.pc_lex.specs.TextReading.{text_behind, unescape}
-use Rattle.pc_lex.specs.Reading.{text_at, text_or, value_or}
+use Rattle.pc_lex.specs.{TextReading.{text_behind, unescape}, Reading.{text_at, text_or, value_or}}
 
 pub text_found : (text : List ℕ) (n : ℕ) → n < length (drop 1 text) → Some (drop (n + 1) (drop 1 text)) ≡ text_behind (drop 1 text) → text_at text ≡ value_or (n + 2) (unescape (take n (drop 1 text)))
 unfolding text_at

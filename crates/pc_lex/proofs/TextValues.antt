@@ -1,17 +1,9 @@
 -- A byte of a text's value is read as it is written.
-use Rattle.std.proofs.Common.{◌≡◌, ℕ, zero, suc, ◌+◌, ◌*◌, ◌<◌, ◌≤◌, Bool, true, false, cond, ◌&&◌, ◌==◌, List, [], ◌∷◌, ◌++◌, length, take, drop, Option, Some, None, Result, Ok, Err, IfOk, refl, sym, ap, ap₂, ◌∙◌, subst, inl, inr, arith, length-append, append_assoc, append-nil, take-add, drop_at, take-append-drop, length-drop, length-take-le, drop-drop}
-use Rattle.std.specs.Prelude.{IfErr}
-use Rattle.std.proofs.lemmas.Bool.{eqb-true, and_parts}
-use Rattle.std.specs.Char.{is_digit, digit_value}
-use Rattle.pc_lex.specs.Pieces.{is_plain, escape_of, Writes, Written}
-use Rattle.pc_lex.specs.Faults.{NoByte, BadAt}
-use Rattle.pc_lex.specs.TextReading.{escape_at, escape_here, byte_at, with_first, on_byte, unescape_in, unescape, EscapeWithin}
-use Rattle.pc_lex.specs.EscapeFaults.{IsBadEscape, GivesValue}
-use Rattle.pc_lex.specs.declared.texts.EscapeFault.{EscapeFault}
+use Rattle.std.proofs.{Common.{◌≡◌, ℕ, zero, suc, ◌+◌, ◌*◌, ◌<◌, ◌≤◌, Bool, true, false, cond, ◌&&◌, ◌==◌, List, [], ◌∷◌, ◌++◌, length, take, drop, Option, Some, None, Result, Ok, Err, IfOk, refl, sym, ap, ap₂, ◌∙◌, subst, inl, inr, arith, length-append, append_assoc, append-nil, take-add, drop_at, take-append-drop, length-drop, length-take-le, drop-drop}, lemmas.Bool.{eqb-true, and_parts}, lemmas.Option.same_Some}
+use Rattle.std.specs.{Prelude.IfErr, Char.{is_digit, digit_value}}
+use Rattle.pc_lex.specs.{Pieces.{is_plain, escape_of, Writes, Written}, Faults.{NoByte, BadAt}, TextReading.{escape_at, escape_here, byte_at, with_first, on_byte, unescape_in, unescape, EscapeWithin}, EscapeFaults.{IsBadEscape, GivesValue}, declared.texts.EscapeFault.EscapeFault}
 use Rattle.pc_lex.specs.declared.texts.EscapeFault.TheVariants as fault
-use Rattle.pc_lists.proofs.Options.{none_some}
-use Rattle.pc_lists.proofs.Cuts.{same_cut}
-use Rattle.std.proofs.lemmas.Option.{same_Some}
+use Rattle.pc_base.proofs.{Options.none_some, Cuts.same_cut}
 
 pub byte_read : (one rest : List ℕ) (v : ℕ) → Writes one v → byte_at (one ++ rest) ≡ Some (v, length one)
 unfolding byte_at

@@ -1,28 +1,13 @@
 -- A text has a token list within the limit or a first fault, and not both.
-use Rattle.std.proofs.Common.{◌≡◌, ℕ, zero, suc, ◌+◌, ◌-◌, ◌<◌, ◌≤◌, Bool, true, false, List, [], ◌∷◌, ◌++◌, length, drop, Result, Ok, Err, IfOk, refl, sym, ap, ◌∙◌, subst, inl, inr, ◌⊎◌, arith, length-append}
-use Rattle.std.specs.Prelude.{IfErr}
-use Rattle.std.proofs.lemmas.Bool.{true≢false, cases_lt}
-use Rattle.std.specs.Char.{is_ascii_digit}
-use Rattle.pc_token.specs.declared.kinds.Token.{Token}
-use Rattle.pc_token.specs.declared.kinds.TokenKind.{TokenKind}
+use Rattle.std.proofs.{Common.{◌≡◌, ℕ, zero, suc, ◌+◌, ◌-◌, ◌<◌, ◌≤◌, Bool, true, false, List, [], ◌∷◌, ◌++◌, length, drop, Result, Ok, Err, IfOk, refl, sym, ap, ◌∙◌, subst, inl, inr, ◌⊎◌, arith, length-append}, lemmas.Bool.{true≢false, cases_lt}}
+use Rattle.std.specs.{Prelude.IfErr, Char.is_ascii_digit}
+use Rattle.pc_token.specs.{declared.kinds.Token.Token, declared.kinds.TokenKind.TokenKind}
 use Rattle.pc_token.specs.declared.kinds.TokenKind.TheVariants as kinds
-use Rattle.pc_lex.specs.declared.fault.LexFault.{LexFault}
+use Rattle.pc_lex.specs.{declared.fault.LexFault.LexFault, declared.pieces.Found.Found, declared.pieces.LexStop.LexStop, Pieces.{token_limit, Piece, gap, token, bytes_of, IsToken, Pieces, tokens_of, Tokens, TokenList, first_test, begins}, Parts.open_mark, Faults.{is_quote, OpensCommentOrText, count, Faulty, FaultAfter, TokenAfter, FirstLexFault}, Refusals.{RefusesTokens, AnswersTokens}, Reading.{piece_at, step_of, is_gap, Steps}}
 use Rattle.pc_lex.specs.declared.fault.LexFault.TheVariants as fault
-use Rattle.pc_lex.specs.declared.pieces.Found.{Found}
 use Rattle.pc_lex.specs.declared.pieces.Found.TheVariants as found
-use Rattle.pc_lex.specs.declared.pieces.LexStop.{LexStop}
 use Rattle.pc_lex.specs.declared.pieces.LexStop.TheVariants as stop
-use Rattle.pc_lex.specs.Pieces.{token_limit, Piece, gap, token, bytes_of, IsToken, Pieces, tokens_of, Tokens, TokenList, first_test, begins}
-use Rattle.pc_lex.specs.Parts.{open_mark}
-use Rattle.pc_lex.specs.Faults.{is_quote, OpensCommentOrText, count, Faulty, FaultAfter, TokenAfter, FirstLexFault}
-use Rattle.pc_lex.specs.Refusals.{RefusesTokens, AnswersTokens}
-use Rattle.pc_lex.specs.Reading.{piece_at, step_of, is_gap, Steps}
-use Rattle.pc_lex.proofs.Longest.{spelled_some}
-use Rattle.pc_lex.proofs.OneCut.{piece_one, piece_some, not_both, tokens_one}
-use Rattle.pc_lex.proofs.OneFault.{gap_token, none_of, Cases, fault_cases, fault_one}
-use Rattle.pc_lex.proofs.Reached.{Sofar, starts_so, goes_on, nearer, ends_so, stuck_so, right_at}
-use Rattle.pc_lex.proofs.PieceRight.{Right}
-use Rattle.pc_lex.proofs.QuotedBytes.{doc_quote}
+use Rattle.pc_lex.proofs.{Longest.spelled_some, OneCut.{piece_one, piece_some, not_both, tokens_one}, OneFault.{gap_token, none_of, Cases, fault_cases, fault_one}, Reached.{Sofar, starts_so, goes_on, nearer, ends_so, stuck_so, right_at}, PieceRight.Right, QuotedBytes.doc_quote}
 
 -- there is one more token than pieces that are tokens
 made_count : (ps : List Piece) (at : ℕ) (first : Bool) → length (tokens_of at first ps) ≡ count ps + 1

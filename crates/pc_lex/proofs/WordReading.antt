@@ -1,15 +1,9 @@
 -- A reserved word is spelled like a name.
-use Rattle.std.proofs.Common.{◌≡◌, ℕ, Bool, true, not, ◌&&◌, List, length, take, refl, sym, subst, arith, take_all}
-use Rattle.std.specs.Prelude.{nat_eq, nat_lt}
-use Rattle.std.specs.List.{list_all}
-use Rattle.std.specs.Char.{is_ascii_lowercase}
-use Rattle.std.proofs.lemmas.Bool.{and_parts, not-true, ltb-true, eqb-true}
-use Rattle.pc_token.specs.declared.words.Word.{Word}
-use Rattle.pc_token.specs.declared.words.TheConstants.{WORDS}
-use Rattle.pc_token.specs.Words.{word_text}
+use Rattle.std.proofs.{Common.{◌≡◌, ℕ, Bool, true, not, ◌&&◌, List, length, take, refl, sym, subst, arith, take_all}, lemmas.Bool.{and_parts, not-true, ltb-true, eqb-true}}
+use Rattle.std.specs.{Prelude.{nat_eq, nat_lt}, List.list_all, Char.is_ascii_lowercase}
+use Rattle.pc_token.specs.{declared.words.Word.Word, declared.words.TheConstants.WORDS, Words.word_text}
 use Rattle.pc_token.proofs.WordFacts.{each_word}
-use Rattle.pc_lex.specs.Pieces.{NameText}
-use Rattle.pc_lex.specs.Reading.{tail_len, letter_len, name_len, is_type}
+use Rattle.pc_lex.specs.{Pieces.NameText, Reading.{tail_len, letter_len, name_len, is_type}}
 use Rattle.pc_lex.proofs.NameReading.{name_sound, head_test}
 
 -- the whole text is a name, and not a type name

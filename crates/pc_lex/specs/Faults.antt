@@ -1,8 +1,7 @@
 -- The first fault of a text that has no token list, and what lexing may return.
-use Rattle.std.specs.Prelude.{◌≡◌, ℕ, ◌+◌, ◌<◌, ◌≤◌, Bool, true, false, ◌==◌, List, ◌∷◌, ◌++◌, length, take, drop, ◌⊎◌, [], codes}
-use Rattle.std.specs.Char.{is_ascii_digit}
+use Rattle.std.specs.{Prelude.{◌≡◌, ℕ, ◌+◌, ◌<◌, ◌≤◌, Bool, true, false, ◌==◌, List, ◌∷◌, ◌++◌, length, take, drop, ◌⊎◌, [], codes}, Char.is_ascii_digit}
 use Rattle.pc_token.specs.declared.kinds.TokenKind.{TokenKind}
-use Rattle.pc_lex.specs.{declared.fault.LexFault.LexFault, Pieces.token_limit, Pieces.Piece, Pieces.gap, Pieces.token, Pieces.bytes_of, Pieces.IsPiece, Pieces.Pieces, Pieces.IsToken, Pieces.begins, Pieces.first_test, Pieces.BetweenQuotes, Pieces.Writes, Pieces.Written, Pieces.begins_doc}
+use Rattle.pc_lex.specs.{declared.fault.LexFault.LexFault, Pieces.{token_limit, Piece, gap, token, bytes_of, IsPiece, Pieces, IsToken, begins, first_test, BetweenQuotes, Writes, Written, begins_doc}}
 use Rattle.pc_lex.specs.declared.fault.LexFault.TheVariants as fault
 
 -- `"`

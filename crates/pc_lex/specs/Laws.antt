@@ -1,7 +1,7 @@
 -- Laws of token lists and faults, and what reading one piece means.
 use Rattle.std.specs.Prelude.{◌≡◌, ℕ, List, ◌⊎◌}
 use Rattle.pc_token.specs.declared.kinds.Token.{Token}
-use Rattle.pc_lex.specs.{declared.fault.LexFault.LexFault, Pieces.Tokens, Pieces.TokenList, Faults.FirstLexFault}
+use Rattle.pc_lex.specs.{declared.fault.LexFault.LexFault, Pieces.{Tokens, TokenList}, Faults.FirstLexFault}
 use Rattle.pc_lex.specs.declared.fault.LexFault.TheVariants as fault
 
 -- A text has at most one token list.

@@ -1,6 +1,5 @@
 -- Parts of the definitions of tokens, each with a name.
-use Rattle.std.specs.Prelude.{ℕ, ◌≡◌, ◌==◌, Bool, List, codes}
-use Rattle.std.specs.List.{list_any}
+use Rattle.std.specs.{Prelude.{ℕ, ◌≡◌, ◌==◌, Bool, List, codes}, List.list_any}
 use Rattle.pc_token.specs.{declared.words.Word.Word, Words.word_text}
 
 abbrev pub hex_mark : List ℕ

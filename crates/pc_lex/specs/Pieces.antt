@@ -2,9 +2,8 @@
 --
 -- A text is cut into pieces: blanks, comments, and at each place the longest token that begins there. The pieces
 -- determine the tokens.
-use Rattle.std.specs.Prelude.{ℕ, Bool, false, not, ◌||◌, ◌==◌, nat_eq, List, [], ◌∷◌, ◌≡◌, ◌+◌, ◌*◌, true, ◌++◌, Option, Some, None, if◌then◌else◌, ◌⊎◌, codes, ◌<◌, ◌≤◌, ◌^◌, length, ⊤}
-use Rattle.std.specs.{Char.is_ascii_digit, Char.is_ascii_lowercase, Char.is_ascii_uppercase, Char.is_digit, Char.digit_value, List.starts_with, List.list_all, List.list_any}
-use Rattle.pc_token.specs.{declared.words.Word.Word, declared.kinds.Token.Token, declared.kinds.TokenKind.TokenKind, Words.word_text, Words.sign_text}
+use Rattle.std.specs.{Prelude.{ℕ, Bool, false, not, ◌||◌, ◌==◌, nat_eq, List, [], ◌∷◌, ◌≡◌, ◌+◌, ◌*◌, true, ◌++◌, Option, Some, None, if◌then◌else◌, ◌⊎◌, codes, ◌<◌, ◌≤◌, ◌^◌, length, ⊤}, Char.{is_ascii_digit, is_ascii_lowercase, is_ascii_uppercase, is_digit, digit_value}, List.{starts_with, list_all, list_any}}
+use Rattle.pc_token.specs.{declared.words.Word.Word, declared.kinds.Token.Token, declared.kinds.TokenKind.TokenKind, Words.{word_text, sign_text}}
 use Rattle.pc_token.specs.declared.kinds.TokenKind.TheVariants as kinds
 
 -- ---- classes of bytes, and how a text may begin

@@ -1,8 +1,7 @@
 -- How the first piece of a text is read.
-use Rattle.std.specs.Prelude.{ℕ, zero, suc, ◌+◌, ◌-◌, ◌*◌, ◌^◌, nat_lt, Bool, true, false, ◌&&◌, ◌||◌, ◌==◌, List, [], ◌∷◌, length, take, drop, slice_index, Option, Some, None, Result, Ok, Err, if◌then◌else◌, ◌≡◌, ◌<◌, ◌≤◌, ◌++◌, ⊤}
-use Rattle.std.specs.{List.prefix_len, Char.is_ascii_uppercase, Char.is_ascii_digit, Char.is_digit, Char.digit_value}
-use Rattle.pc_token.specs.{declared.signs.Sign.Sign, declared.words.Word.Word, declared.kinds.Token.Token, declared.kinds.TokenKind.TokenKind, Finding.word_of, Finding.sign_at}
-use Rattle.pc_lex.specs.{declared.fault.LexFault.LexFault, Pieces.token_limit, Parts.has_line_end, Pieces.begins_doc, Pieces.is_blank, Pieces.is_letter, Pieces.is_tail, Pieces.is_prime, Pieces.is_line, Pieces.begins, Parts.line_mark, Parts.open_mark, Parts.hex_mark, Parts.bin_mark, Pieces.first_test, Pieces.is_joined, Faults.is_quote, TextReading.text_behind, TextReading.unescape, TextReading.doc_behind, declared.classes.Class.Class, declared.pieces.Found.Found, declared.pieces.LexStop.LexStop}
+use Rattle.std.specs.{Prelude.{ℕ, zero, suc, ◌+◌, ◌-◌, ◌*◌, ◌^◌, nat_lt, Bool, true, false, ◌&&◌, ◌||◌, ◌==◌, List, [], ◌∷◌, length, take, drop, slice_index, Option, Some, None, Result, Ok, Err, if◌then◌else◌, ◌≡◌, ◌<◌, ◌≤◌, ◌++◌, ⊤}, List.prefix_len, Char.{is_ascii_uppercase, is_ascii_digit, is_digit, digit_value}}
+use Rattle.pc_token.specs.{declared.signs.Sign.Sign, declared.words.Word.Word, declared.kinds.Token.Token, declared.kinds.TokenKind.TokenKind, Finding.{word_of, sign_at}}
+use Rattle.pc_lex.specs.{declared.fault.LexFault.LexFault, Pieces.{token_limit, begins_doc, is_blank, is_letter, is_tail, is_prime, is_line, begins, first_test, is_joined}, Parts.{has_line_end, line_mark, open_mark, hex_mark, bin_mark}, Faults.is_quote, TextReading.{text_behind, unescape, doc_behind}, declared.classes.Class.Class, declared.pieces.Found.Found, declared.pieces.LexStop.LexStop}
 use Rattle.pc_lex.specs.declared.fault.LexFault.TheVariants as fault
 use Rattle.pc_token.specs.declared.kinds.TokenKind.TheVariants as kinds
 use Rattle.pc_lex.specs.declared.classes.Class.TheVariants as class

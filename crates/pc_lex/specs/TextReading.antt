@@ -1,7 +1,6 @@
 -- How text literals and docs are read.
-use Rattle.std.specs.Prelude.{ℕ, zero, suc, ◌+◌, ◌*◌, ◌<◌, ◌&&◌, ◌==◌, List, [], ◌∷◌, length, drop, Option, Some, None, Result, Ok, Err, if◌then◌else◌, ⊤}
-use Rattle.std.specs.Char.{is_digit, digit_value}
-use Rattle.pc_lex.specs.{declared.texts.EscapeFault.EscapeFault, Pieces.is_plain, Pieces.escape_of, Pieces.begins_doc}
+use Rattle.std.specs.{Prelude.{ℕ, zero, suc, ◌+◌, ◌*◌, ◌<◌, ◌&&◌, ◌==◌, List, [], ◌∷◌, length, drop, Option, Some, None, Result, Ok, Err, if◌then◌else◌, ⊤}, Char.{is_digit, digit_value}}
+use Rattle.pc_lex.specs.{declared.texts.EscapeFault.EscapeFault, Pieces.{is_plain, escape_of, begins_doc}}
 use Rattle.pc_lex.specs.declared.texts.EscapeFault.TheVariants as fault
 
 -- the text after the next `"` that is not escaped by a `\`

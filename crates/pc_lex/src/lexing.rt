@@ -12,7 +12,7 @@ ghost use Rattle.pc_lex.specs.Reading.{Passes, Steps, StopWithin, Stuck};
 use crate::classes::is_blank;
 use crate::fault::LexFault;
 use crate::pieces::{Found, LexStop, piece_at};
-use pc_caps::{List, Span};
+use pc_base::{List, Span};
 use pc_token::{Token, TokenKind};
 use std::alloc::{AllocError, Global};
 

@@ -3,7 +3,7 @@ ghost use Rattle.std.specs.Prelude.{◌≡◌, ◌≤◌, length, IfOk};
 ghost use Rattle.pc_lex.specs.Reading as reading;
 
 use crate::classes::{Class, is_letter, run};
-use pc_caps::ShortBytes;
+use pc_base::ShortBytes;
 use pc_token::{TokenKind, word_of};
 use std::alloc::{AllocError, Global};
 

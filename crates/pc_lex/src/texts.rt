@@ -7,7 +7,7 @@ ghost use Rattle.pc_lex.specs.TextReading as reading;
 ghost use Rattle.pc_lex.specs.EscapeFaults.{IsBadEscape, GivesValue};
 
 use crate::numbers::{digit_value, is_digit};
-use pc_caps::List;
+use pc_base::List;
 use std::alloc::{AllocError, Global};
 
 /// Why the bytes between the quotes of a text literal denote no value.

@@ -1,21 +1,14 @@
 -- A run of a list goes on by a step.
-use Rattle.std.proofs.Common.{◌≡◌, ℕ, ◌+◌, ◌<◌, ◌≤◌, List, [], ◌∷◌, ◌++◌, length, get_or, take, drop, Option, Some, None, refl, sym, ap, ◌∙◌, subst, arith, append_assoc, append-nil}
+use Rattle.std.proofs.{Common.{◌≡◌, ℕ, ◌+◌, ◌<◌, ◌≤◌, List, [], ◌∷◌, ◌++◌, length, get_or, take, drop, Option, Some, None, refl, sym, ap, ◌∙◌, subst, arith, append_assoc, append-nil}, lemmas.List.{drop_more, take_more, take-append-drop}}
 use Rattle.std.specs.FinMap.{len}
-use Rattle.std.proofs.lemmas.List.{drop_more, take_more, take-append-drop}
 use Rattle.pc_core.specs.CoreData.{CoreData}
 use Rattle.pc_heap.specs.Heaps.{object_limit}
 use Rattle.pc_machine.proofs.Growing.{Changes, Grown, step_changes, few_at_start}
-use Rattle.pc_machine.specs.Machines.{message_limit}
-use Rattle.pc_semantics.specs.declared.outcome.Lack.{Lack}
-use Rattle.pc_semantics.specs.declared.outcome.Outcome.{Outcome}
+use Rattle.pc_machine.specs.{Machines.message_limit, Limits.list_limit}
+use Rattle.pc_semantics.specs.{declared.outcome.Lack.Lack, declared.outcome.Outcome.Outcome, Configurations.{Configuration, start}, Step.{after, followed, outcomes, outcomes_from, run_from, step}, Safety.LacksNothing, Text.{ended_at, end_of, waiting}}
 use Rattle.pc_semantics.specs.declared.outcome.Outcome.TheVariants as outcome
-use Rattle.pc_semantics.specs.Configurations.{Configuration, start}
-use Rattle.pc_semantics.specs.Step.{after, followed, outcomes, outcomes_from, run_from, step}
-use Rattle.pc_semantics.specs.Safety.{LacksNothing}
-use Rattle.pc_semantics.specs.Text.{ended_at, end_of, waiting}
-use Rattle.pc_machine.specs.Limits.{list_limit}
 use Rattle.pc_list_steps.proofs.Underway.{Underway}
-use Rattle.pc_lists.proofs.Cuts.{take_whole}
+use Rattle.pc_base.proofs.Cuts.{take_whole}
 
 -- ---- before the first step
 

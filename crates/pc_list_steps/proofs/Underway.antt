@@ -1,10 +1,7 @@
 -- Runs that are under way.
-use Rattle.std.specs.Prelude.{◌≡◌, ℕ, ◌+◌, ◌≤◌, List, ◌++◌, take, drop}
-use Rattle.std.specs.FinMap.{len}
+use Rattle.std.specs.{Prelude.{◌≡◌, ℕ, ◌+◌, ◌≤◌, List, ◌++◌, take, drop}, FinMap.len}
 use Rattle.pc_core.specs.CoreData.{CoreData}
-use Rattle.pc_semantics.specs.Configurations.{Configuration}
-use Rattle.pc_semantics.specs.Step.{after, outcomes, outcomes_from, run_from}
-use Rattle.pc_semantics.specs.Text.{ended_at, end_of, waiting}
+use Rattle.pc_semantics.specs.{Configurations.Configuration, Step.{after, outcomes, outcomes_from, run_from}, Text.{ended_at, end_of, waiting}}
 
 -- The first n steps of the list moved or were skipped, and led to configuration c. What is left gives the rest of the run.
 pub record Underway (core : CoreData) (list : List ℕ) (n : ℕ) (c : Configuration) : Type 0 where

@@ -2,8 +2,8 @@
 use Rattle.std.specs.Prelude.{◌≡◌, ◌≤◌, ℕ, List, Some, None, Result, MatchResult}
 use Rattle.pc_core.specs.CoreData.{CoreData}
 use Rattle.pc_machine.specs.Machines.{MachineData}
-use Rattle.pc_semantics.specs.{Step.after, Step.outcomes, Text.end_of}
-use Rattle.pc_list_steps.specs.{declared.fault.StepsFault.StepsFault, declared.fault.StepsFault.TheVariants.TooLong, declared.fault.StepsFault.TheVariants.Memory}
+use Rattle.pc_semantics.specs.{Step.{after, outcomes}, Text.end_of}
+use Rattle.pc_list_steps.specs.{declared.fault.StepsFault.StepsFault, declared.fault.StepsFault.TheVariants.{TooLong, Memory}}
 use Rattle.pc_semantics.specs.declared.outcome.Outcome.TheVariants as outcome
 
 -- The machine of the core after all steps of the list.

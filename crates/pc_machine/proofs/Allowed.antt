@@ -1,37 +1,20 @@
 -- What a task's move may name: the object that it writes exists, a new object has the fields of its entity and, unless
 -- an actor is made, the next address of its actor, and a message goes to an actor that exists.
-use Rattle.std.proofs.Common.{◌≡◌, ℕ, ◌-◌, ◌<◌, Bool, true, false, cond, List, [], ◌∷◌, ◌++◌, Option, Some, None, refl, sym, ap, subst}
-use Rattle.std.specs.Prelude.{nat_eq, nat_lt, ◌&&◌, is_some, IsSome, slice_get, length}
-use Rattle.std.specs.FinMap.{get}
-use Rattle.std.proofs.lemmas.List.{length-replicate}
+use Rattle.std.proofs.{Common.{◌≡◌, ℕ, ◌-◌, ◌<◌, Bool, true, false, cond, List, [], ◌∷◌, ◌++◌, Option, Some, None, refl, sym, ap, subst}, lemmas.List.length-replicate}
+use Rattle.std.specs.{Prelude.{nat_eq, nat_lt, ◌&&◌, is_some, IsSome, slice_get, length}, FinMap.get}
 use borrow.Author.Tests.{ltb-true}
 use Rattle.pc_tree.specs.declared.kinds.Op.{Op}
 use Rattle.pc_tree.specs.declared.kinds.Op.TheVariants as op
-use Rattle.pc_heap.specs.Objects.{next_address, Object}
-use Rattle.pc_heap.specs.declared.value.Address.{Address}
-use Rattle.pc_heap.specs.declared.value.Value.{Value}
-use Rattle.pc_heap.specs.declared.value.Value.TheVariants.{Num, Truth, Text, Prim, At}
-use Rattle.pc_core.specs.CoreData.{CoreData, field_named, method_named}
-use Rattle.pc_core.specs.declared.declarations.Method.{Method}
-use Rattle.pc_core.specs.declared.declarations.MethodKind.{MethodKind}
+use Rattle.pc_heap.specs.{Objects.{next_address, Object}, declared.value.Address.Address, declared.value.Value.Value, declared.value.Value.TheVariants.{Num, Truth, Text, Prim, At}}
+use Rattle.pc_core.specs.{CoreData.{CoreData, field_named, method_named}, declared.declarations.Method.Method, declared.declarations.MethodKind.MethodKind, declared.nodes.Node.Node, declared.nodes.NodeKind.NodeKind}
 use Rattle.pc_core.specs.declared.declarations.MethodKind.TheVariants as method
-use Rattle.pc_core.specs.declared.nodes.Node.{Node}
-use Rattle.pc_core.specs.declared.nodes.NodeKind.{NodeKind}
 use Rattle.pc_core.specs.declared.nodes.NodeKind.TheVariants as node
-use Rattle.pc_semantics.specs.declared.frames.Frame.{Frame}
-use Rattle.pc_semantics.specs.declared.frames.Task.{Task}
+use Rattle.pc_semantics.specs.{declared.frames.Frame.Frame, declared.frames.Task.Task, Configurations.{Around, Move, Goes, Writes, Makes, Spawns, Sends, Leaves, pop, popped, value_entity, blank_object}, Parts.{with_top, with_popped, number_of_fields, begin_new, make_of, spawn_of, enter, send, push_text, invoke_found, invoke_method, invoke_on, leave_object, return_task, get_value, get_field, get_of, get_from, put_value, put_field, put_of, put_into, push_slot, take_slot, evaluate_node, push_or_lack, negated, compared, at_node}, Calls.{counted, make_task, spawn_task, invoke_kind, text_of, is_string, invoke_task, leave, get_task, put_task, store, store_task}, Evaluation.{truth, apply_task, right_side, test_and, test_or, test_task, branch, loop_turn, first_then, evaluate, of_numbers, of_truths, of_texts, binary}, Step.task_move}
 use Rattle.pc_semantics.specs.declared.frames.Task.TheVariants as task
-use Rattle.pc_semantics.specs.Configurations.{Around, Move, Goes, Writes, Makes, Spawns, Sends, Leaves, pop, popped, value_entity, blank_object}
-use Rattle.pc_semantics.specs.Parts.{with_top, with_popped, number_of_fields, begin_new, make_of, spawn_of, enter, send, push_text, invoke_found, invoke_method, invoke_on, leave_object, return_task, get_value, get_field, get_of, get_from, put_value, put_field, put_of, put_into, push_slot, take_slot, evaluate_node, push_or_lack, negated, compared, at_node}
-use Rattle.pc_semantics.specs.Calls.{counted, make_task, spawn_task, invoke_kind, text_of, is_string, invoke_task, leave, get_task, put_task, store, store_task}
-use Rattle.pc_semantics.specs.Evaluation.{truth, apply_task, right_side, test_and, test_or, test_task, branch, loop_turn, first_then, evaluate, of_numbers, of_truths, of_texts, binary}
-use Rattle.pc_semantics.specs.Step.{task_move}
-use Rattle.pc_tasks.specs.Fielded.{HasFields}
-use Rattle.pc_tasks.specs.Inside.{first_move, relieved}
-use Rattle.pc_machine.specs.declared.plan.Plan.{Plan}
+use Rattle.pc_tasks.specs.{Fielded.HasFields, Inside.{first_move, relieved}}
+use Rattle.pc_machine.specs.{declared.plan.Plan.Plan, Plans.{move_of, ReachesActor}}
 use Rattle.pc_machine.specs.declared.plan.Plan.TheVariants as plan
-use Rattle.pc_machine.specs.Plans.{move_of, ReachesActor}
-use Rattle.pc_lists.proofs.Bools.{second_true}
+use Rattle.pc_base.proofs.Bools.{second_true}
 
 abbrev pub Allowed : CoreData → Around → Move → Type 0
 Allowed core around (Writes at k v f) = IsSome (get around.objects at)

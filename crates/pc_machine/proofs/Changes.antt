@@ -1,12 +1,8 @@
 -- Lists that are changed at one place.
-use Rattle.std.proofs.Common.{◌≡◌, ℕ, zero, suc, ◌+◌, ◌-◌, ◌<◌, List, [], ◌∷◌, ◌++◌, length, drop, get_or, set, Option, Some, None, refl, sym, ap, ◌∙◌, arith, length-append, length-drop}
+use Rattle.std.proofs.{Common.{◌≡◌, ℕ, zero, suc, ◌+◌, ◌-◌, ◌<◌, List, [], ◌∷◌, ◌++◌, length, drop, get_or, set, Option, Some, None, refl, sym, ap, ◌∙◌, arith, length-append, length-drop}, lemmas.List.Sums.sum_by-cons, lemmas.Option.{same_Some, none-some}}
 use Rattle.std.specs.Prelude.{map, slice_get, IsSomeAnd}
-use Rattle.std.proofs.lemmas.List.Sums.{sum_by-cons}
-use Rattle.std.proofs.lemmas.Option.{same_Some, none-some}
-use Rattle.pc_semantics.specs.declared.actors.Actor.{Actor}
-use Rattle.pc_semantics.specs.declared.frames.Frame.{Frame}
-use Rattle.pc_semantics.specs.declared.mailbox.Message.{Message}
-use Rattle.pc_lists.proofs.Gets.{get_within}
+use Rattle.pc_semantics.specs.{declared.actors.Actor.Actor, declared.frames.Frame.Frame, declared.mailbox.Message.Message}
+use Rattle.pc_base.proofs.Gets.{get_within}
 use Rattle.pc_machine.specs.Changed.{changed, framed, mailed, unmailed, frames_of, messages_in}
 
 -- a write of the element there, changed

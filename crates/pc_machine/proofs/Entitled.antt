@@ -1,20 +1,9 @@
 -- Objects keep the fields of their entities: when a field gets a value, and when an object is added.
-use Rattle.std.proofs.Common.{◌≡◌, ℕ, Bool, true, false, cond, Option, Some, None, refl, sym, ◌∙◌, subst}
-use Rattle.std.specs.Prelude.{IsSome, slice_get}
-use Rattle.std.specs.Ordering.{eq_by_cmp}
-use Rattle.std.specs.FinMap.{get, insert, empty, get-insert, get-empty}
-use Rattle.std.proofs.lemmas.List.{length-set, length-replicate}
-use Rattle.std.proofs.lemmas.Bool.{false≢true}
-use Rattle.std.proofs.lemmas.Option.{same_Some, none-some}
-use Rattle.pc_heap.specs.Addresses.{addresses_total}
-use Rattle.pc_heap.specs.Objects.{address_cmp, ObjectMap, with_field, with_value, Object}
-use Rattle.pc_heap.specs.Parts.{object_in}
-use Rattle.pc_heap.specs.declared.value.Address.{Address}
-use Rattle.pc_heap.specs.declared.value.Value.{Value}
-use Rattle.pc_heap.specs.declared.value.Value.TheVariants.{At}
+use Rattle.std.proofs.{Common.{◌≡◌, ℕ, Bool, true, false, cond, Option, Some, None, refl, sym, ◌∙◌, subst}, lemmas.List.{length-set, length-replicate}, lemmas.Bool.false≢true, lemmas.Option.{same_Some, none-some}}
+use Rattle.std.specs.{Prelude.{IsSome, slice_get}, Ordering.eq_by_cmp, FinMap.{get, insert, empty, get-insert, get-empty}}
+use Rattle.pc_heap.specs.{Addresses.addresses_total, Objects.{address_cmp, ObjectMap, with_field, with_value, Object}, Parts.object_in, declared.value.Address.Address, declared.value.Value.Value, declared.value.Value.TheVariants.At}
 use Rattle.pc_core.specs.CoreData.{CoreData}
-use Rattle.pc_semantics.specs.Configurations.{own_address, environment_address, blank_object, environment, main_create, start, start_of}
-use Rattle.pc_semantics.specs.Parts.{number_of_fields}
+use Rattle.pc_semantics.specs.{Configurations.{own_address, environment_address, blank_object, environment, main_create, start, start_of}, Parts.number_of_fields}
 use Rattle.pc_tasks.specs.Fielded.{HasFields, Fielded}
 
 module _ (core : CoreData) where

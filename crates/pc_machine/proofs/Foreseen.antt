@@ -2,15 +2,8 @@
 use Rattle.std.proofs.Common.{◌≡◌, ℕ, zero, suc, ◌<◌, List, [], ◌∷◌, drop, Some, None, refl, sym, ap, ◌∙◌, arith}
 use Rattle.std.specs.Prelude.{slice_get}
 use Rattle.pc_core.specs.CoreData.{CoreData}
-use Rattle.pc_semantics.specs.declared.actors.Actor.{Actor}
-use Rattle.pc_semantics.specs.declared.frames.Frame.{Frame}
-use Rattle.pc_semantics.specs.declared.frames.Task.{Task}
-use Rattle.pc_semantics.specs.declared.mailbox.Message.{Message}
-use Rattle.pc_semantics.specs.Configurations.{Configuration, Around, with_tasks}
-use Rattle.pc_semantics.specs.Step.{task_move, around, printed_text, take_first}
-use Rattle.pc_semantics.specs.Parts.{begin_method, of_tasks, of_actor}
+use Rattle.pc_semantics.specs.{declared.actors.Actor.Actor, declared.frames.Frame.Frame, declared.frames.Task.Task, declared.mailbox.Message.Message, Configurations.{Configuration, Around, with_tasks}, Step.{task_move, around, printed_text, take_first}, Parts.{begin_method, of_tasks, of_actor}, Ahead.{by_move, by_outcome, of_frames, ahead_of}}
 use Rattle.pc_semantics.specs.declared.ahead.Ahead.TheVariants as ahead
-use Rattle.pc_semantics.specs.Ahead.{by_move, by_outcome, of_frames, ahead_of}
 use Rattle.pc_tasks.specs.Inside.{first_move}
 use Rattle.pc_machine.proofs.Stepped.{head_rest, none_first}
 

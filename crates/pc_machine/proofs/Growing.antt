@@ -1,28 +1,10 @@
 -- A step adds at most one object and one message, and changes nothing if it is skipped or too long.
-use Rattle.std.proofs.Common.{◌≡◌, ℕ, zero, suc, ◌+◌, ◌≤◌, Bool, true, false, cond, List, [], ◌∷◌, ◌++◌, length, Option, Some, None, refl, ap, arith, length-append}
-use Rattle.std.specs.Prelude.{is_some, slice_get, slice_set}
-use Rattle.std.specs.List.{sum_by}
-use Rattle.std.specs.FinMap.{empty, get, insert, len, len-empty, len-insert}
-use Rattle.std.proofs.lemmas.List.Sums.{sum-map, sum_by-set, sum_by_push}
-use Rattle.std.proofs.lemmas.Option.{get_or_from_slice_get}
-use Rattle.pc_lists.proofs.Gets.{get_below}
-use Rattle.pc_heap.specs.Addresses.{addresses_total}
-use Rattle.pc_heap.specs.Objects.{address_cmp, ObjectMap, with_value, Object}
-use Rattle.pc_heap.specs.declared.value.Address.{Address}
-use Rattle.pc_heap.specs.declared.value.Value.{Value}
-use Rattle.pc_heap.specs.declared.value.Value.TheVariants.{Num, Truth, Text, Prim, At}
-use Rattle.pc_core.specs.CoreData.{CoreData}
-use Rattle.pc_core.specs.declared.declarations.Method.{Method}
-use Rattle.pc_semantics.specs.declared.actors.Actor.{Actor}
-use Rattle.pc_semantics.specs.declared.frames.Frame.{Frame}
-use Rattle.pc_semantics.specs.declared.frames.Task.{Task}
-use Rattle.pc_semantics.specs.declared.mailbox.Message.{Message}
-use Rattle.pc_semantics.specs.declared.outcome.Outcome.{Outcome}
-use Rattle.pc_semantics.specs.declared.outcome.Outcome.TheVariants.{Moved, Skipped, Lacks, TooLong}
-use Rattle.pc_semantics.specs.Configurations.{Configuration, with_frames, own_address, blank_object, environment, environment_address, start, start_of, main_create, Move, Stuck, Overflows, Goes, Writes, Makes, Spawns, Enters, Sends, Leaves}
-use Rattle.pc_semantics.specs.Parts.{begin_method, begun, delivered, run_task, step_of}
-use Rattle.pc_semantics.specs.Step.{left, made, printed_text, run_frames, step, take, take_first}
-use Rattle.pc_semantics.specs.Text.{waiting}
+use Rattle.std.proofs.{Common.{◌≡◌, ℕ, zero, suc, ◌+◌, ◌≤◌, Bool, true, false, cond, List, [], ◌∷◌, ◌++◌, length, Option, Some, None, refl, ap, arith, length-append}, lemmas.List.Sums.{sum-map, sum_by-set, sum_by_push}, lemmas.Option.get_or_from_slice_get}
+use Rattle.std.specs.{Prelude.{is_some, slice_get, slice_set}, List.sum_by, FinMap.{empty, get, insert, len, len-empty, len-insert}}
+use Rattle.pc_base.proofs.Gets.{get_below}
+use Rattle.pc_heap.specs.{Addresses.addresses_total, Objects.{address_cmp, ObjectMap, with_value, Object}, declared.value.Address.Address, declared.value.Value.Value, declared.value.Value.TheVariants.{Num, Truth, Text, Prim, At}}
+use Rattle.pc_core.specs.{CoreData.CoreData, declared.declarations.Method.Method}
+use Rattle.pc_semantics.specs.{declared.actors.Actor.Actor, declared.frames.Frame.Frame, declared.frames.Task.Task, declared.mailbox.Message.Message, declared.outcome.Outcome.Outcome, declared.outcome.Outcome.TheVariants.{Moved, Skipped, Lacks, TooLong}, Configurations.{Configuration, with_frames, own_address, blank_object, environment, environment_address, start, start_of, main_create, Move, Stuck, Overflows, Goes, Writes, Makes, Spawns, Enters, Sends, Leaves}, Parts.{begin_method, begun, delivered, run_task, step_of}, Step.{left, made, printed_text, run_frames, step, take, take_first}, Text.waiting}
 
 pub record Grown (c d : Configuration) : Type 0 where
   pub objects : len d.objects ≤ len c.objects + 1

@@ -1,30 +1,12 @@
 -- After a step, the makers of objects are still actors, and objects still have the fields of their entities.
-use Rattle.std.proofs.Common.{◌≡◌, ℕ, zero, suc, ◌+◌, ◌<◌, List, [], ◌∷◌, ◌++◌, length, Option, Some, None, Ok, Err, refl, sym, ap, subst, length-append}
-use Rattle.std.specs.Prelude.{slice_get, slice_set, Result, IfOk, OnErr}
-use Rattle.std.specs.declared.alloc.AllocError.{AllocError}
-use Rattle.std.specs.FinMap.{get, len}
-use Rattle.std.proofs.lemmas.List.{length-set}
-use Rattle.pc_lists.proofs.Gets.{get_below}
-use Rattle.pc_heap.specs.Heaps.{object_limit}
-use Rattle.pc_heap.specs.Objects.{ObjectMap, with_field}
-use Rattle.pc_heap.specs.Parts.{object_in}
-use Rattle.pc_heap.specs.declared.value.Address.{Address}
-use Rattle.pc_heap.specs.declared.value.Value.{Value}
-use Rattle.pc_heap.specs.declared.value.Value.TheVariants.{Num, Truth, Text, Prim, At}
-use Rattle.pc_core.specs.CoreData.{CoreData}
-use Rattle.pc_core.specs.declared.declarations.Method.{Method}
-use Rattle.pc_semantics.specs.declared.actors.Actor.{Actor}
-use Rattle.pc_semantics.specs.declared.frames.Frame.{Frame}
-use Rattle.pc_semantics.specs.declared.frames.Task.{Task}
-use Rattle.pc_semantics.specs.declared.mailbox.Message.{Message}
-use Rattle.pc_semantics.specs.declared.outcome.Outcome.{Outcome}
-use Rattle.pc_semantics.specs.Configurations.{Configuration, own_address, with_frames, Move, Stuck, Overflows, Goes, Writes, Makes, Spawns, Enters, Sends, Leaves, with_tasks}
-use Rattle.pc_semantics.specs.Step.{around, made, printed_text, run_frames, step, take, take_first}
-use Rattle.pc_semantics.specs.Parts.{begin_method, begun, delivered, run_task, step_of}
+use Rattle.std.proofs.{Common.{◌≡◌, ℕ, zero, suc, ◌+◌, ◌<◌, List, [], ◌∷◌, ◌++◌, length, Option, Some, None, Ok, Err, refl, sym, ap, subst, length-append}, lemmas.List.length-set}
+use Rattle.std.specs.{Prelude.{slice_get, slice_set, Result, IfOk, OnErr}, declared.alloc.AllocError.AllocError, FinMap.{get, len}}
+use Rattle.pc_base.proofs.Gets.{get_below}
+use Rattle.pc_heap.specs.{Heaps.object_limit, Objects.{ObjectMap, with_field}, Parts.object_in, declared.value.Address.Address, declared.value.Value.Value, declared.value.Value.TheVariants.{Num, Truth, Text, Prim, At}}
+use Rattle.pc_core.specs.{CoreData.CoreData, declared.declarations.Method.Method}
+use Rattle.pc_semantics.specs.{declared.actors.Actor.Actor, declared.frames.Frame.Frame, declared.frames.Task.Task, declared.mailbox.Message.Message, declared.outcome.Outcome.Outcome, Configurations.{Configuration, own_address, with_frames, Move, Stuck, Overflows, Goes, Writes, Makes, Spawns, Enters, Sends, Leaves, with_tasks}, Step.{around, made, printed_text, run_frames, step, take, take_first}, Parts.{begin_method, begun, delivered, run_task, step_of}}
 use Rattle.pc_machine.specs.States.{Sound, IsSound}
-use Rattle.pc_machine.proofs.Allowed.{Allowed, task_allowed}
-use Rattle.pc_machine.proofs.Entitled.{field_written, object_comes}
-use Rattle.pc_machine.proofs.Peopling.{peopled_actor, peopled_again, peopled_object}
+use Rattle.pc_machine.proofs.{Allowed.{Allowed, task_allowed}, Entitled.{field_written, object_comes}, Peopling.{peopled_actor, peopled_again, peopled_object}}
 
 -- ---- the same objects and as many actors
 

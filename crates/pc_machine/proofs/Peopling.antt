@@ -1,21 +1,10 @@
 -- The makers of objects are actors, and stay so.
-use Rattle.std.proofs.Common.{◌≡◌, ℕ, ◌+◌, ◌<◌, ◌≤◌, Bool, true, false, cond, List, [], ◌∷◌, Option, Some, None, refl, sym, ap, ◌∙◌, subst, arith}
-use Rattle.std.specs.Prelude.{nat_eq, is_some, IsSome}
-use Rattle.std.specs.List.{count_by}
-use Rattle.std.specs.Cmp.{eq_by_cmp_equiv}
-use Rattle.std.specs.Ordering.{eq_by_cmp, is_eq, nat_cmp}
-use Rattle.std.specs.FinMap.{empty, get, insert, len, entries, find, get-empty, get-insert, get-entries, len-empty, len-insert}
-use Rattle.std.proofs.lemmas.Bool.{true≢false, eqb-true}
-use Rattle.std.proofs.lemmas.List.Sums.{sum_by-cons}
-use Rattle.std.proofs.lemmas.Map.Lookups.{CmpEqualImpliesEq, exact_pairs, exact_unsigned}
-use Rattle.std.proofs.lemmas.Map.Views.{tells_apart}
-use Rattle.pc_heap.specs.Addresses.{addresses_total}
-use Rattle.pc_heap.specs.Heaps.{object_limit}
-use Rattle.pc_heap.specs.Objects.{address_cmp, ObjectMap, made_by, next_address, Object}
-use Rattle.pc_heap.specs.declared.value.Address.{Address}
+use Rattle.std.proofs.{Common.{◌≡◌, ℕ, ◌+◌, ◌<◌, ◌≤◌, Bool, true, false, cond, List, [], ◌∷◌, Option, Some, None, refl, sym, ap, ◌∙◌, subst, arith}, lemmas.Bool.{true≢false, eqb-true}, lemmas.List.Sums.sum_by-cons, lemmas.Map.Lookups.{CmpEqualImpliesEq, exact_pairs, exact_unsigned}, lemmas.Map.Views.tells_apart}
+use Rattle.std.specs.{Prelude.{nat_eq, is_some, IsSome}, List.count_by, Cmp.eq_by_cmp_equiv, Ordering.{eq_by_cmp, is_eq, nat_cmp}, FinMap.{empty, get, insert, len, entries, find, get-empty, get-insert, get-entries, len-empty, len-insert}}
+use Rattle.pc_heap.specs.{Addresses.addresses_total, Heaps.object_limit, Objects.{address_cmp, ObjectMap, made_by, next_address, Object}, declared.value.Address.Address}
 use Rattle.pc_semantics.specs.Configurations.{own_address}
 use Rattle.pc_machine.specs.States.{Peopled}
-use Rattle.pc_lists.specs.Counts.{one_if}
+use Rattle.pc_base.specs.Counts.{one_if}
 
 pub exact_addresses : CmpEqualImpliesEq address_cmp
 exact_addresses a b h = ap (λ (p : ℕ × ℕ). record { maker = p.0; serial = p.1 }) (exact_pairs nat_cmp nat_cmp exact_unsigned exact_unsigned (a.maker, a.serial) (b.maker, b.serial) h)

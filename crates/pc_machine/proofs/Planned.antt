@@ -1,26 +1,10 @@
 -- The result of a plan.
-use Rattle.std.proofs.Common.{◌≡◌, ℕ, zero, suc, ◌<◌, List, [], ◌∷◌, ◌++◌, length, Option, Some, None, refl, sym, ap, ◌∙◌, arith}
-use Rattle.std.specs.Prelude.{slice_get}
-use Rattle.std.specs.FinMap.{insert}
-use Rattle.std.proofs.lemmas.List.{length-set}
-use Rattle.pc_lists.proofs.Gets.{get_within}
-use Rattle.pc_heap.specs.Objects.{ObjectMap, next_address, new_object}
-use Rattle.pc_heap.specs.declared.value.Address.{Address}
-use Rattle.pc_heap.specs.declared.value.Value.TheVariants.{At}
-use Rattle.pc_semantics.specs.declared.actors.Actor.{Actor}
-use Rattle.pc_semantics.specs.declared.frames.Frame.{Frame}
-use Rattle.pc_semantics.specs.declared.mailbox.Message.{Message}
-use Rattle.pc_semantics.specs.declared.outcome.Outcome.{Outcome}
-use Rattle.pc_semantics.specs.declared.outcome.Outcome.TheVariants.{Moved}
-use Rattle.pc_semantics.specs.Configurations.{Configuration, own_address, with_frames, with_slot, none}
-use Rattle.pc_semantics.specs.Step.{around, made}
-use Rattle.pc_semantics.specs.Parts.{delivered}
-use Rattle.pc_machine.specs.declared.plan.Change.{Change}
-use Rattle.pc_machine.specs.declared.plan.Change.TheVariants.{Gives, Enters, Leaves}
-use Rattle.pc_machine.specs.declared.plan.Plan.{Plan}
-use Rattle.pc_machine.specs.declared.plan.Plan.TheVariants.{Changes, Makes, Spawns, Sends}
-use Rattle.pc_machine.specs.Changed.{changed, framed, mailed, frames_in, frames_of}
-use Rattle.pc_machine.specs.Plans.{given, frames_changed, change_move, move_of, planned, planned_by, planned_frames}
+use Rattle.std.proofs.{Common.{◌≡◌, ℕ, zero, suc, ◌<◌, List, [], ◌∷◌, ◌++◌, length, Option, Some, None, refl, sym, ap, ◌∙◌, arith}, lemmas.List.length-set}
+use Rattle.std.specs.{Prelude.slice_get, FinMap.insert}
+use Rattle.pc_base.proofs.Gets.{get_within}
+use Rattle.pc_heap.specs.{Objects.{ObjectMap, next_address, new_object}, declared.value.Address.Address, declared.value.Value.TheVariants.At}
+use Rattle.pc_semantics.specs.{declared.actors.Actor.Actor, declared.frames.Frame.Frame, declared.mailbox.Message.Message, declared.outcome.Outcome.Outcome, declared.outcome.Outcome.TheVariants.Moved, Configurations.{Configuration, own_address, with_frames, with_slot, none}, Step.{around, made}, Parts.delivered}
+use Rattle.pc_machine.specs.{declared.plan.Change.Change, declared.plan.Change.TheVariants.{Gives, Enters, Leaves}, declared.plan.Plan.Plan, declared.plan.Plan.TheVariants.{Changes, Makes, Spawns, Sends}, Changed.{changed, framed, mailed, frames_in, frames_of}, Plans.{given, frames_changed, change_move, move_of, planned, planned_by, planned_frames}}
 use Rattle.pc_machine.proofs.Changes.{changed_set, is_there, frames_mailed, mailed_framed}
 
 -- ---- an actor that runs

@@ -1,16 +1,11 @@
 -- Arguments that are popped.
-use Rattle.std.proofs.Common.{Bor, ◌≡◌, ℕ, zero, suc, ◌-◌, ◌<◌, ◌≤◌, List, [], ◌∷◌, ◌++◌, length, take, drop, Option, Some, None, refl, sym, ap, ◌∙◌, inl, inr, arith, append_assoc}
+use Rattle.std.proofs.{Common.{Bor, ◌≡◌, ℕ, zero, suc, ◌-◌, ◌<◌, ◌≤◌, List, [], ◌∷◌, ◌++◌, length, take, drop, Option, Some, None, refl, sym, ap, ◌∙◌, inl, inr, arith, append_assoc}, lemmas.List.{append-nil, reverse-append, length-drop}, lemmas.Bool.{cases_lt, true≢false}}
 use Rattle.std.specs.Prelude.{slice_get, reverse, IsSome, IfSome, ◌↔◌, MatchOption}
-use Rattle.std.proofs.lemmas.List.{append-nil, reverse-append, length-drop}
-use Rattle.std.proofs.lemmas.Bool.{cases_lt, true≢false}
 use Rattle.pc_heap.specs.declared.value.Value.{Value}
 use Rattle.pc_core.specs.CoreData.{CoreData}
 use Rattle.pc_core.specs.declared.nodes.NodeKind.TheVariants as node
-use Rattle.pc_semantics.specs.declared.frames.Frame.{Frame}
+use Rattle.pc_semantics.specs.{declared.frames.Frame.Frame, Configurations.{Around, given, pop_arguments, popped, value_entity, with_stack}, Calls.invoke_task, Parts.{invoke_on, with_popped}}
 use Rattle.pc_semantics.specs.declared.outcome.Lack.TheVariants as lack
-use Rattle.pc_semantics.specs.Configurations.{Around, given, pop_arguments, popped, value_entity, with_stack}
-use Rattle.pc_semantics.specs.Calls.{invoke_task}
-use Rattle.pc_semantics.specs.Parts.{invoke_on, with_popped}
 
 pub popped_enough : (k : ℕ) (xs arguments : List Value) → k ≤ length xs → popped k xs arguments ≡ Some (reverse (take k xs) ++ arguments, drop k xs)
 popped_enough zero xs arguments l = refl

@@ -1,23 +1,12 @@
 -- The start of a core's program.
 use Rattle.std.proofs.Common.{◌≡◌, ℕ, ◌+◌, ◌<◌, Bool, true, false, cond, List, [], ◌∷◌, Option, Some, None, refl, sym, ap, ◌∙◌, arith}
-use Rattle.std.specs.Prelude.{map, is_some, IsSome, slice_get, replicate}
-use Rattle.std.specs.FinMap.{empty, get, insert, len, entries, put, get-insert, same_map, len-empty, len-entries, entries-insert}
-use Rattle.std.specs.Ordering.{eq_by_cmp}
-use Rattle.pc_heap.specs.Addresses.{addresses_total}
-use Rattle.pc_heap.specs.Heaps.{object_limit}
-use Rattle.pc_heap.specs.Objects.{address_cmp, ObjectMap, next_address, with_field, with_value, Object}
-use Rattle.pc_heap.specs.Parts.{object_in, field_in}
-use Rattle.pc_heap.specs.Fields.{field_at}
-use Rattle.pc_heap.specs.declared.value.Address.{Address}
-use Rattle.pc_heap.specs.declared.value.Value.{Value}
-use Rattle.pc_heap.specs.declared.value.Value.TheVariants.{At}
-use Rattle.pc_core.specs.CoreData.{CoreData}
-use Rattle.pc_core.specs.Formed.{Formed}
-use Rattle.pc_semantics.specs.Configurations.{own_address, environment_address, environment, blank_object, start, start_of, main_create}
-use Rattle.pc_semantics.specs.Parts.{number_of_fields}
+use Rattle.std.specs.{Prelude.{map, is_some, IsSome, slice_get, replicate}, FinMap.{empty, get, insert, len, entries, put, get-insert, same_map, len-empty, len-entries, entries-insert}, Ordering.eq_by_cmp}
+use Rattle.pc_heap.specs.{Addresses.addresses_total, Heaps.object_limit, Objects.{address_cmp, ObjectMap, next_address, with_field, with_value, Object}, Parts.{object_in, field_in}, Fields.field_at, declared.value.Address.Address, declared.value.Value.Value, declared.value.Value.TheVariants.At}
+use Rattle.pc_core.specs.{CoreData.CoreData, Formed.Formed}
+use Rattle.pc_semantics.specs.{Configurations.{own_address, environment_address, environment, blank_object, start, start_of, main_create}, Parts.number_of_fields}
 use Rattle.pc_machine.specs.States.{Peopled, IsPeopled}
 use Rattle.pc_machine.proofs.Peopling.{exact_addresses, len_grows, peopled_actor, peopled_none, peopled_object}
-use Rattle.pc_lists.proofs.Cuts.{without_length}
+use Rattle.pc_base.proofs.Cuts.{without_length}
 
 -- ---- maps, as rules to compute with
 

@@ -1,28 +1,14 @@
 -- From what a function did to the step of the actor.
-use Rattle.std.proofs.Common.{◌≡◌, ℕ, zero, suc, ◌<◌, List, [], ◌∷◌, ◌++◌, length, drop, get_or, set, Option, Some, None, Result, Ok, Err, refl, sym, ap, ◌∙◌, subst, arith}
+use Rattle.std.proofs.{Common.{◌≡◌, ℕ, zero, suc, ◌<◌, List, [], ◌∷◌, ◌++◌, length, drop, get_or, set, Option, Some, None, Result, Ok, Err, refl, sym, ap, ◌∙◌, subst, arith}, lemmas.Option.{same_Some, none-some}}
 use Rattle.std.specs.Prelude.{slice_get, IfOk, IfSome, IsSomeAnd, OnErr}
-use Rattle.std.proofs.lemmas.Option.{same_Some, none-some}
-use Rattle.pc_heap.specs.Objects.{ObjectMap}
-use Rattle.pc_heap.specs.declared.value.Value.{Value}
-use Rattle.pc_heap.specs.declared.value.Value.TheVariants.{Text, At}
-use Rattle.pc_core.specs.CoreData.{CoreData}
-use Rattle.pc_lists.specs.Lists.{◌>>=◌}
-use Rattle.pc_core.specs.declared.declarations.Method.{Method}
-use Rattle.pc_semantics.specs.declared.actors.Actor.{Actor}
-use Rattle.pc_semantics.specs.declared.frames.Frame.{Frame}
-use Rattle.pc_semantics.specs.declared.mailbox.Message.{Message}
-use Rattle.pc_semantics.specs.declared.outcome.Outcome.{Outcome}
-use Rattle.pc_semantics.specs.declared.outcome.Outcome.TheVariants.{Moved}
-use Rattle.pc_semantics.specs.Configurations.{Configuration, own_address, with_frames, first_frame}
-use Rattle.pc_semantics.specs.Parts.{begin_method, begun, step_of}
-use Rattle.pc_semantics.specs.Step.{printed_text, run_frames, step, take, take_first}
+use Rattle.pc_heap.specs.{Objects.ObjectMap, declared.value.Value.Value, declared.value.Value.TheVariants.{Text, At}}
+use Rattle.pc_core.specs.{CoreData.CoreData, declared.declarations.Method.Method}
+use Rattle.pc_base.specs.Lists.{◌>>=◌}
+use Rattle.pc_semantics.specs.{declared.actors.Actor.Actor, declared.frames.Frame.Frame, declared.mailbox.Message.Message, declared.outcome.Outcome.Outcome, declared.outcome.Outcome.TheVariants.Moved, Configurations.{Configuration, own_address, with_frames, first_frame}, Parts.{begin_method, begun, step_of}, Step.{printed_text, run_frames, step, take, take_first}}
 use Rattle.pc_tasks.specs.Inside.{IsInside}
 use Rattle.pc_tasks.proofs.Steps.{inside_step}
-use Rattle.pc_machine.specs.Changed.{changed, framed, unmailed, frames_in, frames_of, messages_in}
-use Rattle.pc_machine.specs.Ran.{RanFrames, RanAt}
-use Rattle.pc_machine.specs.Taken.{only_text, frame_begun}
-use Rattle.pc_machine.proofs.Changes.{changed_set, get_there, is_there, messages_same, set_changed}
-use Rattle.pc_machine.proofs.Planned.{amended, Running, running, goes_on}
+use Rattle.pc_machine.specs.{Changed.{changed, framed, unmailed, frames_in, frames_of, messages_in}, Ran.{RanFrames, RanAt}, Taken.{only_text, frame_begun}}
+use Rattle.pc_machine.proofs.{Changes.{changed_set, get_there, is_there, messages_same, set_changed}, Planned.{amended, Running, running, goes_on}}
 
 -- ---- a message is taken
 

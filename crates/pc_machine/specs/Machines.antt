@@ -1,7 +1,6 @@
 -- A machine, seen as its core and its configuration.
-use Rattle.std.specs.Prelude.{ℕ, List, refl}
-use Rattle.std.specs.{Coded.Coded, Coded.code_by, Coded.coded×, Coded.coded_list, Coded.coded_ℕ, FinMap.code}
-use Rattle.pc_heap.specs.{Objects.ObjectMap, Coding.coded_address, Coding.coded_object}
+use Rattle.std.specs.{Prelude.{ℕ, List, refl}, Coded.{Coded, code_by, coded×, coded_list, coded_ℕ}, FinMap.code}
+use Rattle.pc_heap.specs.{Objects.ObjectMap, Coding.{coded_address, coded_object}}
 use Rattle.pc_core.specs.CoreData.{CoreData}
 use Rattle.pc_semantics.specs.{declared.actors.Actor.Actor, Configurations.Configuration}
 use Rattle.pc_core.specs.contracts.cores.Core as core

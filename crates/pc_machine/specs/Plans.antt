@@ -1,8 +1,8 @@
 -- What a plan means, as the move of a task.
 use Rattle.std.specs.Prelude.{ℕ, ◌<◌, ◌≤◌, List, [], ◌∷◌, length, drop, Option, Some, None, nat_eq, nat_lt, ◌&&◌, if◌then◌else◌, slice_get}
-use Rattle.pc_heap.specs.{Objects.new_object, Objects.next_address, Heaps.field_limit, declared.value.Value.Value, declared.value.Value.TheVariants.At}
-use Rattle.pc_semantics.specs.{declared.actors.Actor.Actor, declared.frames.Frame.Frame, declared.outcome.Outcome.Outcome, Configurations.Configuration, Configurations.own_address, Configurations.Around, Configurations.Move, Configurations.pushed, Configurations.with_slot, Configurations.none, Step.around, Step.left, Step.made}
-use Rattle.pc_machine.specs.{declared.plan.Change.Change, declared.plan.Change.TheVariants.Gives, declared.plan.Change.TheVariants.Enters, declared.plan.Change.TheVariants.Leaves, declared.plan.Plan.Plan, declared.plan.Plan.TheVariants.Lacks, declared.plan.Plan.TheVariants.Changes, declared.plan.Plan.TheVariants.Makes, declared.plan.Plan.TheVariants.Spawns, declared.plan.Plan.TheVariants.Sends}
+use Rattle.pc_heap.specs.{Objects.{new_object, next_address}, Heaps.field_limit, declared.value.Value.Value, declared.value.Value.TheVariants.At}
+use Rattle.pc_semantics.specs.{declared.actors.Actor.Actor, declared.frames.Frame.Frame, declared.outcome.Outcome.Outcome, Configurations.{Configuration, own_address, Around, Move, pushed, with_slot, none}, Step.{around, left, made}}
+use Rattle.pc_machine.specs.{declared.plan.Change.Change, declared.plan.Change.TheVariants.{Gives, Enters, Leaves}, declared.plan.Plan.Plan, declared.plan.Plan.TheVariants.{Lacks, Changes, Makes, Spawns, Sends}}
 use Rattle.pc_semantics.specs.declared.outcome.Outcome.TheVariants as outcome
 use Rattle.pc_semantics.specs.Configurations as move
 

@@ -1,6 +1,5 @@
 -- What a machine changes, as a configuration, and what holds of it.
-use Rattle.std.specs.Prelude.{ℕ, ◌<◌, ◌≤◌, length, IsSome}
-use Rattle.std.specs.FinMap.{get, len}
+use Rattle.std.specs.{Prelude.{ℕ, ◌<◌, ◌≤◌, length, IsSome}, FinMap.{get, len}}
 use Rattle.pc_heap.specs.{declared.value.Address.Address, Heaps.object_limit, Objects.ObjectMap}
 use Rattle.pc_core.specs.CoreData.{CoreData}
 use Rattle.pc_semantics.specs.Configurations.{Configuration}

@@ -1,9 +1,9 @@
 -- What a message means to the idle actor that takes it.
 use Rattle.std.specs.Prelude.{ℕ, List, [], ◌∷◌, Option, Some, None, slice_get}
-use Rattle.pc_heap.specs.{declared.value.Value.Value, declared.value.Value.TheVariants.Text, declared.value.Value.TheVariants.At}
+use Rattle.pc_heap.specs.{declared.value.Value.Value, declared.value.Value.TheVariants.{Text, At}}
 use Rattle.pc_core.specs.CoreData.{CoreData}
-use Rattle.pc_lists.specs.Lists.{◌>>=◌}
-use Rattle.pc_semantics.specs.{declared.frames.Frame.Frame, declared.mailbox.Message.Message, Configurations.own_address, Configurations.first_frame}
+use Rattle.pc_base.specs.Lists.{◌>>=◌}
+use Rattle.pc_semantics.specs.{declared.frames.Frame.Frame, declared.mailbox.Message.Message, Configurations.{own_address, first_frame}}
 
 -- The text to print.
 abbrev pub only_text : List Value → Option (List ℕ)

@@ -12,7 +12,7 @@ use crate::actors::{Actors, idle_actor, waiting_actor};
 use crate::arguments::message_of;
 use crate::lookups::fields_of;
 use crate::state::State;
-use pc_caps::List;
+use pc_base::List;
 use pc_core::Core;
 use pc_heap::{Address, Heap, Value};
 use pc_semantics::main_create;

@@ -159,7 +159,7 @@ fn push_on(frame: &mut Frame, value: Value) -> Result<(), AllocError>
 }
 
 // The running frame ends, and leaves a value to the one below.
-#[tactic(auto, using(pc_lists::proofs::Gets::set_back))]
+#[tactic(auto, using(pc_base::proofs::Gets::set_back))]
 fn leave(alloc: Global, frames: &mut Stack<Frame>, value: Value) -> Result<(), AllocError>
     requires { 0 < length frames.old }
     ensures ok { OnOk result (frames.new ≡ ended (Some value) frames.old) }

@@ -1,6 +1,6 @@
 //! What a core and a heap determine about entities.
 ghost use Rattle.std.specs.Prelude.{◌≡◌, ◌≤◌, slice_get};
-ghost use Rattle.pc_caps.specs.Limits.{field_limit};
+ghost use Rattle.pc_base.specs.Limits.{field_limit};
 ghost use Rattle.pc_semantics.specs.Configurations as around;
 ghost use Rattle.pc_semantics.specs.Parts.{number_of_fields};
 

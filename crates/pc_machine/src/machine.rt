@@ -15,7 +15,7 @@ use crate::ahead::ahead_of;
 use crate::beginning::start_state;
 use crate::state::State;
 use crate::step::advance;
-use pc_caps::List;
+use pc_base::List;
 use pc_core::Core;
 use pc_heap::Address;
 use pc_semantics::{Access, Actor, Ahead, Outcome};

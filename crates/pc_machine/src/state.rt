@@ -1,7 +1,7 @@
 //! What a machine changes.
 
 use crate::actors::Actors;
-use pc_caps::List;
+use pc_base::List;
 use pc_heap::Heap;
 
 /// The objects, the actors and the printed texts of a machine.

@@ -7,7 +7,7 @@ ghost use Rattle.pc_machine.specs.Plans.{after_call, move_of, PlanFits};
 ghost use Rattle.pc_semantics.specs.declared.frames.Frame.{Frame};
 
 use crate::plan::{Change, Plan};
-use pc_caps::{List, SharedList};
+use pc_base::{List, SharedList};
 use pc_core::Core;
 use pc_heap::{Text, Value};
 use pc_semantics::Lack;

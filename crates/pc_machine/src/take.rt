@@ -7,7 +7,7 @@ ghost use Rattle.pc_machine.specs.Taken.{only_text, frame_begun};
 
 use crate::frames::begin_frame;
 use crate::state::State;
-use pc_caps::List;
+use pc_base::List;
 use pc_core::Core;
 use pc_heap::{Address, Value};
 use pc_semantics::{Frame, Lack, Message, Outcome, Stack};

@@ -1,12 +1,7 @@
 -- What the operations on masks do to each number.
-use Rattle.std.proofs.Common.{inl, inr, ap, sym, subst, ◌∙◌, arith, add-mul, mod-lt, pow_pos, zero-mul}
-use Rattle.std.proofs.lemmas.Bool.{cases_lt, cases_order, eqb-true, eq-eqb, lt-ltb, le-ltb}
-use Rattle.std.proofs.lemmas.Bool.Decides.{eqb_tells}
-use Rattle.std.proofs.lemmas.Nat.{shr_split}
-use Rattle.std.proofs.lemmas.Nat.Bits.{bit_at-lt, bit_at_lowest, bit_at-suc, bit_at_and, bit_at_or, bit_at-pow_same, bit_at-pow_other, and_pow, bit_at_above, bit_at_cat_low, bit_at_cat_high, bit_at_ones, bit_at_ones_above, same_from_bits}
-use Rattle.std.specs.Prelude.{◌≡◌, ◌≢◌, ◌⊎◌, ◌↔◌, ℕ, zero, suc, ◌+◌, ◌-◌, ◌*◌, ◌/◌, ◌%◌, ◌^◌, ◌<◌, ◌≤◌, true, cond, min, max, IsTrue, bit_and, bit_or, nat_eq, nat_lt, refl}
-use Rattle.std.specs.Int.{bit_at}
-use Rattle.pc_masks.specs.{declared.mask.Mask.Mask, Masks.IsInMask, Masks.first, Masks.with_number, Masks.without_number, Masks.meet, Masks.join, Masks.within}
+use Rattle.std.proofs.{Common.{inl, inr, ap, sym, subst, ◌∙◌, arith, add-mul, mod-lt, pow_pos, zero-mul}, lemmas.Bool.{cases_lt, cases_order, eqb-true, eq-eqb, lt-ltb, le-ltb}, lemmas.Bool.Decides.eqb_tells, lemmas.Nat.shr_split, lemmas.Nat.Bits.{bit_at-lt, bit_at_lowest, bit_at-suc, bit_at_and, bit_at_or, bit_at-pow_same, bit_at-pow_other, and_pow, bit_at_above, bit_at_cat_low, bit_at_cat_high, bit_at_ones, bit_at_ones_above, same_from_bits}}
+use Rattle.std.specs.{Prelude.{◌≡◌, ◌≢◌, ◌⊎◌, ◌↔◌, ℕ, zero, suc, ◌+◌, ◌-◌, ◌*◌, ◌/◌, ◌%◌, ◌^◌, ◌<◌, ◌≤◌, true, cond, min, max, IsTrue, bit_and, bit_or, nat_eq, nat_lt, refl}, Int.bit_at}
+use Rattle.pc_masks.specs.{declared.mask.Mask.Mask, Masks.{IsInMask, first, with_number, without_number, meet, join, within}}
 
 -- Clearing a bit of a number: that bit is 0, and the others are as before.
 half_twice : (q : ℕ) → q * 2 / 2 ≡ q

@@ -1,6 +1,5 @@
 -- Masks: sets of numbers below 64.
-use Rattle.std.specs.Prelude.{ℕ, ◌-◌, ◌^◌, Bool, IsTrue, min, bit_and, bit_or, nat_eq, nat_lt, if◌then◌else◌}
-use Rattle.std.specs.Int.{bit_at}
+use Rattle.std.specs.{Prelude.{ℕ, ◌-◌, ◌^◌, Bool, IsTrue, min, bit_and, bit_or, nat_eq, nat_lt, if◌then◌else◌}, Int.bit_at}
 use Rattle.pc_masks.specs.declared.mask.Mask.{Mask}
 
 -- The number is in the mask.

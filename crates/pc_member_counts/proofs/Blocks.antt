@@ -1,32 +1,15 @@
 -- What the blocks of traits and interfaces say about a name in their methods.
-use Rattle.std.proofs.Common.{◌≡◌, ℕ, zero, suc, ◌+◌, ◌-◌, ◌<◌, List, [], ◌∷◌, ◌++◌, length, Some, Bool, true, false, ◌&&◌, ◌||◌, refl, sym, ap, ◌∙◌, arith, if◌then◌else◌}
-use Rattle.std.specs.Prelude.{slice_get, option_to_list}
-use Rattle.std.specs.Str.{bytes_eq}
-use Rattle.std.proofs.lemmas.List.Folds.{list_any-append}
-use Rattle.pc_masks.specs.declared.mask.Mask.{Mask}
-use Rattle.pc_masks.specs.Masks.{has, join}
-use Rattle.pc_lists.specs.Lists.{Has, Differ, Text}
-use Rattle.pc_lists.proofs.Elements.{has_on}
-use Rattle.pc_tree.specs.declared.kinds.EntityKind.{EntityKind}
-use Rattle.pc_tree.specs.declared.written_names.Name.{Name}
-use Rattle.pc_tree.specs.Kinds.{is_abstract, first_own}
+use Rattle.std.proofs.{Common.{◌≡◌, ℕ, zero, suc, ◌+◌, ◌-◌, ◌<◌, List, [], ◌∷◌, ◌++◌, length, Some, Bool, true, false, ◌&&◌, ◌||◌, refl, sym, ap, ◌∙◌, arith, if◌then◌else◌}, lemmas.List.Folds.list_any-append}
+use Rattle.std.specs.{Prelude.{slice_get, option_to_list}, Str.bytes_eq}
+use Rattle.pc_masks.specs.{declared.mask.Mask.Mask, Masks.{has, join}}
+use Rattle.pc_base.specs.Lists.{Has, Differ, Text}
+use Rattle.pc_base.proofs.Elements.{has_on}
+use Rattle.pc_tree.specs.{declared.kinds.EntityKind.EntityKind, declared.written_names.Name.Name, Kinds.{is_abstract, first_own}}
 use Rattle.pc_tree.specs.Tree as t
-use Rattle.pc_members.specs.Members.{method_texts, entity_names, IsTransitiveClosure, is_takable}
-use Rattle.pc_members.specs.Founded.{IsFounded}
-use Rattle.pc_members.specs.Edges.{entity_numbers}
-use Rattle.pc_members.specs.MemberLists.{of_each, trait_methods, abstract_methods}
-use Rattle.pc_members.specs.Parts.{of_entity}
+use Rattle.pc_members.specs.{Members.{method_texts, entity_names, IsTransitiveClosure, is_takable}, Founded.IsFounded, Edges.entity_numbers, MemberLists.{of_each, trait_methods, abstract_methods}, Parts.of_entity}
 use Rattle.pc_members.proofs.Ranks.{Target, steady, rank_few}
-use Rattle.pc_member_counts.specs.declared.block.Block.{Block}
-use Rattle.pc_member_counts.specs.Blocks.{nothing, single, followed, takable}
-use Rattle.pc_member_counts.specs.Numbers.{number_in, numbers_in, listing}
-use Rattle.pc_member_counts.specs.Windows.{is_within, with_own, own_block, or_nothing, block_at, with_named, trait_block}
-use Rattle.pc_member_counts.specs.Fresh.{taken_from}
-use Rattle.pc_member_counts.specs.Totals.{takes}
-use Rattle.pc_member_counts.proofs.Truths.{or_false, or_assoc}
-use Rattle.pc_member_counts.proofs.Sights.{unseen, of_method, glance, sight, after, after_unseen, unseen_after, after_assoc, glance_after, sight_parts, sight_firsts, of_kind, takes_sight, takes_nothing}
-use Rattle.pc_member_counts.proofs.Seen.{seen_at, seen_followed, seen_nothing, seen_single, has_takable, has_join}
-use Rattle.pc_member_counts.proofs.Places.{same_number, within_is, within_place, not_within}
+use Rattle.pc_member_counts.specs.{declared.block.Block.Block, Blocks.{nothing, single, followed, takable}, Numbers.{number_in, numbers_in, listing}, Windows.{is_within, with_own, own_block, or_nothing, block_at, with_named, trait_block}, Fresh.taken_from, Totals.takes}
+use Rattle.pc_member_counts.proofs.{Truths.{or_false, or_assoc}, Sights.{unseen, of_method, glance, sight, after, after_unseen, unseen_after, after_assoc, glance_after, sight_parts, sight_firsts, of_kind, takes_sight, takes_nothing}, Seen.{seen_at, seen_followed, seen_nothing, seen_single, has_takable, has_join}, Places.{same_number, within_is, within_place, not_within}}
 
 -- The block describes, for each name from the start on, these methods.
 abbrev pub IsSeen : List Text → ℕ → Block → List t.Method → Type 0

@@ -1,19 +1,12 @@
 -- The names of a file's methods differ, and every method of a trait or an interface has one of them.
-use Rattle.std.proofs.Common.{◌≡◌, ℕ, zero, suc, List, [], ◌∷◌, ◌++◌, Some, Bool, true, false, refl, ap, ◌∙◌, inl, inr, if◌then◌else◌}
+use Rattle.std.proofs.{Common.{◌≡◌, ℕ, zero, suc, List, [], ◌∷◌, ◌++◌, Some, Bool, true, false, refl, ap, ◌∙◌, inl, inr, if◌then◌else◌}, lemmas.Option.{same_Some, none-some}, lemmas.Bool.{or_left, or_right}}
 use Rattle.std.specs.Prelude.{slice_get, Option, None}
-use Rattle.std.proofs.lemmas.Option.{same_Some, none-some}
-use Rattle.std.proofs.lemmas.Bool.{or_left, or_right}
-use Rattle.pc_lists.specs.Lists.{Has, Differ, Text}
-use Rattle.pc_lists.proofs.Elements.{differ_none, has_on, has_either}
-use Rattle.pc_lists.proofs.Gets.{get_map}
+use Rattle.pc_base.specs.Lists.{Has, Differ, Text}
+use Rattle.pc_base.proofs.{Elements.{differ_none, has_on, has_either}, Gets.get_map}
 use Rattle.pc_tree.specs.declared.written_names.Name.{Name}
 use Rattle.pc_tree.specs.Tree as t
-use Rattle.pc_members.specs.MemberLists.{is_among, with_names, firsts, entity_named, of_each, trait_methods}
-use Rattle.pc_members.specs.Parts.{of_entity}
-use Rattle.pc_members.specs.Members.{method_texts}
-use Rattle.pc_members.proofs.Differences.{names_differ, among_has, has_among}
-use Rattle.pc_members.proofs.Completed.{among_parts, names_known}
-use Rattle.pc_members.proofs.Named.{named_is}
+use Rattle.pc_members.specs.{MemberLists.{is_among, with_names, firsts, entity_named, of_each, trait_methods}, Parts.of_entity, Members.method_texts}
+use Rattle.pc_members.proofs.{Differences.{names_differ, among_has, has_among}, Completed.{among_parts, names_known}, Named.named_is}
 use Rattle.pc_member_counts.specs.Numbers.{method_names}
 use Rattle.pc_member_counts.proofs.Picks.{Covered}
 

@@ -1,25 +1,13 @@
 -- What a table of blocks has, entity by entity.
-use Rattle.std.proofs.Common.{◌≡◌, ◌≢◌, ℕ, zero, suc, ◌+◌, ◌-◌, ◌<◌, append_assoc, List, [], ◌∷◌, ◌++◌, length, map, Some, Bool, true, false, nat_eq, refl, sym, ap, ◌∙◌, subst, arith, inl, inr, if◌then◌else◌}
+use Rattle.std.proofs.{Common.{◌≡◌, ◌≢◌, ℕ, zero, suc, ◌+◌, ◌-◌, ◌<◌, append_assoc, List, [], ◌∷◌, ◌++◌, length, map, Some, Bool, true, false, nat_eq, refl, sym, ap, ◌∙◌, subst, arith, inl, inr, if◌then◌else◌}, lemmas.Bool.{and_parts, and_from, eqb-true, eq-eqb}, lemmas.Option.same_Some, lemmas.List.{length-set, length-replicate}}
 use Rattle.std.specs.Prelude.{slice_get, slice_set, replicate}
-use Rattle.std.proofs.lemmas.Bool.{and_parts, and_from, eqb-true, eq-eqb}
-use Rattle.std.proofs.lemmas.Option.{same_Some}
-use Rattle.std.proofs.lemmas.List.{length-set, length-replicate}
-use Rattle.pc_lists.specs.Lists.{Differ, Text}
-use Rattle.pc_lists.proofs.Bools.{true_false}
-use Rattle.pc_lists.proofs.Gets.{get_below, get_map, get_set_same, get_set_other}
+use Rattle.pc_base.specs.Lists.{Differ, Text}
+use Rattle.pc_base.proofs.{Bools.true_false, Gets.{get_below, get_map, get_set_same, get_set_other}}
 use Rattle.pc_tree.specs.Kinds.{is_abstract}
 use Rattle.pc_tree.specs.Tree as t
-use Rattle.pc_members.specs.Members.{entity_names}
-use Rattle.pc_members.specs.Founded.{IsFounded}
-use Rattle.pc_members.specs.Rounds.{rank, ClosesOwn, IsReached}
-use Rattle.pc_members.proofs.Ranks.{target, rank_less, rank_few, named_by}
-use Rattle.pc_members.proofs.Rounding.{one_place, same_rank}
-use Rattle.pc_member_counts.specs.declared.block.Block.{Block}
-use Rattle.pc_member_counts.specs.declared.listing.Listing.{Listing}
-use Rattle.pc_member_counts.specs.Blocks.{nothing}
-use Rattle.pc_member_counts.specs.Numbers.{listing}
-use Rattle.pc_member_counts.specs.Orders.{is_of_rank, of_rank, of_ranks, ordered}
-use Rattle.pc_member_counts.specs.Windows.{trait_block, placed, filled_at, filled}
+use Rattle.pc_members.specs.{Members.entity_names, Founded.IsFounded, Rounds.{rank, ClosesOwn, IsReached}}
+use Rattle.pc_members.proofs.{Ranks.{target, rank_less, rank_few, named_by}, Rounding.{one_place, same_rank}}
+use Rattle.pc_member_counts.specs.{declared.block.Block.Block, declared.listing.Listing.Listing, Blocks.nothing, Numbers.listing, Orders.{is_of_rank, of_rank, of_ranks, ordered}, Windows.{trait_block, placed, filled_at, filled}}
 use Rattle.pc_member_counts.proofs.Blocks.{HasBlock, AllBlocks, trait_seen}
 
 no_less : {T : Type 0} → (a : ℕ) → a < 0 → T

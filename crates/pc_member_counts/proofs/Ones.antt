@@ -1,17 +1,10 @@
 -- The ones of a number, and the names at their places.
-use Rattle.std.proofs.Common.{◌≡◌, ℕ, zero, suc, ◌<◌, ◌≤◌, List, [], ◌∷◌, length, get_or, map, Some, Bool, true, false, cond, nat_eq, count_by, count_ones, refl, sym, ap, ◌∙◌, arith, inl, inr}
-use Rattle.std.specs.Prelude.{slice_get}
-use Rattle.std.specs.Int.{bit_at}
-use Rattle.std.proofs.lemmas.Bool.{cases_lt}
-use Rattle.std.proofs.lemmas.Option.{same_Some, none-some}
-use Rattle.std.proofs.lemmas.Nat.Bits.{bit_at-lt, same_from_bits}
-use Rattle.std.proofs.lemmas.Simd.{bit_mask_l, ones-mask_l}
+use Rattle.std.proofs.{Common.{◌≡◌, ℕ, zero, suc, ◌<◌, ◌≤◌, List, [], ◌∷◌, length, get_or, map, Some, Bool, true, false, cond, nat_eq, count_by, count_ones, refl, sym, ap, ◌∙◌, arith, inl, inr}, lemmas.Bool.cases_lt, lemmas.Option.{same_Some, none-some}, lemmas.Nat.Bits.{bit_at-lt, same_from_bits}, lemmas.Simd.{bit_mask_l, ones-mask_l}}
+use Rattle.std.specs.{Prelude.slice_get, Int.bit_at}
 use lib.Lanes.{mask_l}
-use Rattle.pc_masks.specs.declared.mask.Mask.{Mask}
-use Rattle.pc_masks.specs.Masks.{has}
-use Rattle.pc_lists.proofs.Bools.{true_false}
-use Rattle.pc_lists.proofs.Gets.{get_within}
-use Rattle.pc_lists.specs.Lists.{Text}
+use Rattle.pc_masks.specs.{declared.mask.Mask.Mask, Masks.has}
+use Rattle.pc_base.proofs.{Bools.true_false, Gets.get_within}
+use Rattle.pc_base.specs.Lists.{Text}
 
 bit_is : (n : ℕ) → n < 2 → (b : Bool) → nat_eq n 1 ≡ b → n ≡ cond b 1 0
 bit_is zero l true e = absurd (true_false (sym e))

@@ -1,23 +1,15 @@
 -- How many methods are picked from a list, at most one with each name: as many as there are names with a method to be
 -- picked.
-use Rattle.std.proofs.Common.{◌≡◌, ℕ, zero, suc, ◌+◌, List, [], ◌∷◌, ◌++◌, length, Some, Bool, true, false, cond, ◌&&◌, ◌||◌, not, count_by, refl, sym, ap, ◌∙◌, arith, inl, inr, if◌then◌else◌}
-use Rattle.std.specs.Prelude.{slice_get}
-use Rattle.std.specs.List.{list_any}
-use Rattle.std.specs.Str.{bytes_eq}
-use Rattle.std.proofs.lemmas.Bool.{and_parts, and_cases, not-true, not-false}
-use Rattle.std.proofs.lemmas.Option.{same_Some, none-some}
-use Rattle.std.proofs.lemmas.List.Sums.{sum_by-cons}
-use Rattle.pc_lists.specs.Lists.{Has, Differ, Text}
-use Rattle.pc_lists.proofs.Bools.{true_false}
-use Rattle.pc_lists.proofs.Elements.{has_on}
+use Rattle.std.proofs.{Common.{◌≡◌, ℕ, zero, suc, ◌+◌, List, [], ◌∷◌, ◌++◌, length, Some, Bool, true, false, cond, ◌&&◌, ◌||◌, not, count_by, refl, sym, ap, ◌∙◌, arith, inl, inr, if◌then◌else◌}, lemmas.Bool.{and_parts, and_cases, not-true, not-false}, lemmas.Option.{same_Some, none-some}, lemmas.List.Sums.sum_by-cons}
+use Rattle.std.specs.{Prelude.slice_get, List.list_any, Str.bytes_eq}
+use Rattle.pc_base.specs.Lists.{Has, Differ, Text}
+use Rattle.pc_base.proofs.{Bools.true_false, Elements.has_on}
 use Rattle.pc_tree.specs.declared.kinds.EntityKind.{EntityKind}
 use Rattle.pc_tree.specs.Tree as t
-use Rattle.pc_members.specs.MemberLists.{is_among, firsts, methods_taken_over}
-use Rattle.pc_members.specs.Members.{method_texts, is_takable}
+use Rattle.pc_members.specs.{MemberLists.{is_among, firsts, methods_taken_over}, Members.{method_texts, is_takable}}
 use Rattle.pc_members.proofs.Differences.{same_text, equal_texts}
 use Rattle.pc_member_counts.specs.Totals.{takes}
-use Rattle.pc_member_counts.proofs.Truths.{and_true, and_false, or_false, or_true}
-use Rattle.pc_member_counts.proofs.Sights.{pushed_same, pushed_other}
+use Rattle.pc_member_counts.proofs.{Truths.{and_true, and_false, or_false, or_true}, Sights.{pushed_same, pushed_other}}
 
 -- ---- counts over names
 

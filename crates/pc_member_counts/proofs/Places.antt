@@ -1,25 +1,13 @@
 -- Numbers of names, and names by their numbers.
-use Rattle.std.proofs.Common.{◌≡◌, ℕ, ◌+◌, ◌-◌, ◌<◌, ◌≤◌, List, [], ◌∷◌, length, Some, None, Bool, true, false, cond, ◌&&◌, ◌||◌, not, nat_eq, nat_lt, nat_le, refl, sym, ap, ◌∙◌, arith, inl, inr, if◌then◌else◌}
-use Rattle.std.specs.Prelude.{slice_get}
-use Rattle.std.specs.List.{list_any, position}
-use Rattle.std.specs.Str.{bytes_eq}
-use Rattle.std.proofs.lemmas.Bool.{eqb-true, eq-eqb, ne_eqb, ltb-true, ltb-false, leb-true, leb-false, lt-ltb, and_parts, and_cases}
-use Rattle.std.proofs.lemmas.Option.{same_Some, none-some, get_or_from_slice_get}
-use Rattle.std.proofs.lemmas.List.Sums.{prefix_len-le-length}
-use Rattle.std.proofs.lemmas.List.Quantifiers.{position-Some}
-use Rattle.pc_masks.specs.declared.mask.Mask.{Mask}
-use Rattle.pc_masks.specs.Masks.{has, without_number}
-use Rattle.pc_lists.specs.Lists.{Differ, Text}
-use Rattle.pc_lists.proofs.Gets.{get_below}
-use Rattle.pc_members.specs.MemberLists.{is_among}
-use Rattle.pc_members.specs.Parts.{find_name}
-use Rattle.pc_members.proofs.Differences.{same_text, equal_texts}
-use Rattle.pc_members.proofs.Ranks.{name_place}
-use Rattle.pc_member_counts.specs.Numbers.{number_in, numbers_in}
-use Rattle.pc_member_counts.specs.Windows.{is_within}
-use Rattle.pc_member_counts.specs.Fresh.{without_one, without_all}
-use Rattle.pc_member_counts.proofs.Truths.{same_truth, and_true, and_assoc, neither}
-use Rattle.pc_member_counts.proofs.Seen.{has_without}
+use Rattle.std.proofs.{Common.{◌≡◌, ℕ, ◌+◌, ◌-◌, ◌<◌, ◌≤◌, List, [], ◌∷◌, length, Some, None, Bool, true, false, cond, ◌&&◌, ◌||◌, not, nat_eq, nat_lt, nat_le, refl, sym, ap, ◌∙◌, arith, inl, inr, if◌then◌else◌}, lemmas.Bool.{eqb-true, eq-eqb, ne_eqb, ltb-true, ltb-false, leb-true, leb-false, lt-ltb, and_parts, and_cases}, lemmas.Option.{same_Some, none-some, get_or_from_slice_get}, lemmas.List.Sums.prefix_len-le-length, lemmas.List.Quantifiers.position-Some}
+use Rattle.std.specs.{Prelude.slice_get, List.{list_any, position}, Str.bytes_eq}
+use Rattle.pc_masks.specs.{declared.mask.Mask.Mask, Masks.{has, without_number}}
+use Rattle.pc_base.specs.Lists.{Differ, Text}
+use Rattle.pc_base.proofs.Gets.{get_below}
+use Rattle.pc_members.specs.{MemberLists.is_among, Parts.find_name}
+use Rattle.pc_members.proofs.{Differences.{same_text, equal_texts}, Ranks.name_place}
+use Rattle.pc_member_counts.specs.{Numbers.{number_in, numbers_in}, Windows.is_within, Fresh.{without_one, without_all}}
+use Rattle.pc_member_counts.proofs.{Truths.{same_truth, and_true, and_assoc, neither}, Seen.has_without}
 
 -- ---- a number and a name
 

@@ -1,23 +1,10 @@
 -- The counts of a window by the plan for a file.
-use Rattle.std.proofs.Common.{◌≡◌, ℕ, ◌+◌, ◌-◌, ◌<◌, ◌^◌, min, List, [], length, get_or, take, map, All, true, nat_lt, sym, ap, ◌∙◌, subst, arith}
+use Rattle.std.proofs.{Common.{◌≡◌, ℕ, ◌+◌, ◌-◌, ◌<◌, ◌^◌, min, List, [], length, get_or, take, map, All, true, nat_lt, sym, ap, ◌∙◌, subst, arith}, lemmas.Bool.ltb-true, lemmas.Option.slice_get-get_or, lemmas.List.length-take}
 use Rattle.std.specs.Prelude.{slice_get, slice_set, replicate, Some}
-use Rattle.std.proofs.lemmas.Bool.{ltb-true}
-use Rattle.std.proofs.lemmas.Option.{slice_get-get_or}
-use Rattle.std.proofs.lemmas.List.{length-take}
 use Rattle.pc_tree.specs.Tree as t
-use Rattle.pc_lists.specs.Lists.{Text}
-use Rattle.pc_member_counts.specs.declared.block.Block.{Block}
-use Rattle.pc_member_counts.specs.declared.listing.Listing.{Listing}
-use Rattle.pc_member_counts.specs.declared.plan.Plan.{Plan}
-use Rattle.pc_member_counts.specs.Blocks.{nothing}
-use Rattle.pc_member_counts.specs.Plans.{Plans}
-use Rattle.pc_member_counts.specs.Windows.{trait_block, placed, filled_at, filled}
-use Rattle.pc_member_counts.specs.Fresh.{with_fresh}
-use Rattle.pc_member_counts.specs.Totals.{got}
-use Rattle.pc_member_counts.specs.Numbers.{method_names}
-use Rattle.pc_member_counts.proofs.Covers.{method_names_differ}
-use Rattle.pc_member_counts.proofs.Windows.{window_counted}
-use Rattle.pc_member_counts.proofs.Totals.{got_few}
+use Rattle.pc_base.specs.Lists.{Text}
+use Rattle.pc_member_counts.specs.{declared.block.Block.Block, declared.listing.Listing.Listing, declared.plan.Plan.Plan, Blocks.nothing, Plans.Plans, Windows.{trait_block, placed, filled_at, filled}, Fresh.with_fresh, Totals.got, Numbers.method_names}
+use Rattle.pc_member_counts.proofs.{Covers.method_names_differ, Windows.window_counted, Totals.got_few}
 
 -- ---- one place
 

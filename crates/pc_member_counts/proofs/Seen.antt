@@ -1,19 +1,13 @@
 -- What a block says of the name at a place.
-use Rattle.std.proofs.Common.{◌≡◌, ℕ, ◌<◌, ◌≤◌, Bool, true, false, ◌&&◌, ◌||◌, not, nat_eq, nat_lt, refl, sym, ap, ◌∙◌, arith, inl, inr, if◌then◌else◌}
-use Rattle.std.proofs.lemmas.Bool.{and_parts, and_from, or_cases, or_left, or_right, eqb-true, eqb-false, eq-eqb, ne_eqb, ltb-true, lt-ltb, not-true, not_from_false}
-use Rattle.std.proofs.lemmas.Nat.Bits.{bit_at-zero}
-use Rattle.pc_masks.specs.declared.mask.Mask.{Mask}
-use Rattle.pc_masks.specs.Masks.{has, empty, first, with_number, without_number, meet, join}
-use Rattle.pc_masks.specs.MaskLaws.{meet_bits, join_bits, first_bits, with_number_bits, without_number_bits}
+use Rattle.std.proofs.{Common.{◌≡◌, ℕ, ◌<◌, ◌≤◌, Bool, true, false, ◌&&◌, ◌||◌, not, nat_eq, nat_lt, refl, sym, ap, ◌∙◌, arith, inl, inr, if◌then◌else◌}, lemmas.Bool.{and_parts, and_from, or_cases, or_left, or_right, eqb-true, eqb-false, eq-eqb, ne_eqb, ltb-true, lt-ltb, not-true, not_from_false}, lemmas.Nat.Bits.bit_at-zero}
+use Rattle.pc_masks.specs.{declared.mask.Mask.Mask, Masks.{has, empty, first, with_number, without_number, meet, join}, MaskLaws.{meet_bits, join_bits, first_bits, with_number_bits, without_number_bits}}
 use Rattle.pc_tree.specs.declared.kinds.EntityKind.{EntityKind}
 use Rattle.pc_tree.specs.declared.kinds.EntityKind.TheVariants as kind
 use Rattle.pc_tree.specs.Tree as t
-use Rattle.pc_lists.proofs.Bools.{true_false}
+use Rattle.pc_base.proofs.Bools.{true_false}
 use Rattle.pc_members.specs.Members.{is_takable}
-use Rattle.pc_member_counts.specs.declared.block.Block.{Block}
-use Rattle.pc_member_counts.specs.Blocks.{nothing, alone_if, single, followed, takable}
-use Rattle.pc_member_counts.proofs.Truths.{same_truth, and_true, and_false}
-use Rattle.pc_member_counts.proofs.Sights.{Sight, unseen, of_method, after, of_kind}
+use Rattle.pc_member_counts.specs.{declared.block.Block.Block, Blocks.{nothing, alone_if, single, followed, takable}}
+use Rattle.pc_member_counts.proofs.{Truths.{same_truth, and_true, and_false}, Sights.{Sight, unseen, of_method, after, of_kind}}
 
 -- ---- masks
 

@@ -1,16 +1,13 @@
 -- What is seen of a name in a list of methods: whether there is one, and who takes the first one over.
 use Rattle.std.proofs.Common.{◌≡◌, List, [], ◌∷◌, ◌++◌, Bool, true, false, ◌&&◌, ◌||◌, not, refl, sym, ap, ◌∙◌, if◌then◌else◌}
 use Rattle.std.specs.Str.{bytes_eq}
-use Rattle.pc_lists.proofs.Bools.{true_false}
-use Rattle.pc_tree.specs.declared.kinds.EntityKind.{EntityKind}
+use Rattle.pc_base.proofs.Bools.{true_false}
+use Rattle.pc_tree.specs.{declared.kinds.EntityKind.EntityKind, Kinds.is_abstract}
 use Rattle.pc_tree.specs.declared.kinds.EntityKind.TheVariants as kind
-use Rattle.pc_tree.specs.Kinds.{is_abstract}
 use Rattle.pc_tree.specs.Tree as t
-use Rattle.pc_lists.specs.Lists.{Text}
-use Rattle.pc_members.specs.MemberLists.{is_among, firsts}
-use Rattle.pc_members.specs.Members.{method_texts, is_takable}
-use Rattle.pc_members.proofs.Differences.{equal_texts}
-use Rattle.pc_members.proofs.Completed.{among_parts}
+use Rattle.pc_base.specs.Lists.{Text}
+use Rattle.pc_members.specs.{MemberLists.{is_among, firsts}, Members.{method_texts, is_takable}}
+use Rattle.pc_members.proofs.{Differences.equal_texts, Completed.among_parts}
 use Rattle.pc_member_counts.specs.Totals.{takes}
 use Rattle.pc_member_counts.proofs.Truths.{and_true, and_false, or_false, or_true, and_assoc, first_or_later}
 

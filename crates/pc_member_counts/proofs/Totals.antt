@@ -1,21 +1,13 @@
 -- The members of an entity are those written in it, and one for each name that it gets.
-use Rattle.std.proofs.Common.{◌≡◌, ℕ, zero, suc, ◌+◌, ◌<◌, List, [], ◌∷◌, ◌++◌, length, get_or, map, Bool, true, false, ◌&&◌, not, All, count_by, refl, sym, ap, ◌∙◌, arith, if◌then◌else◌}
+use Rattle.std.proofs.{Common.{◌≡◌, ℕ, zero, suc, ◌+◌, ◌<◌, List, [], ◌∷◌, ◌++◌, length, get_or, map, Bool, true, false, ◌&&◌, not, All, count_by, refl, sym, ap, ◌∙◌, arith, if◌then◌else◌}, lemmas.List.{length-map, length-append}, lemmas.List.Sums.count_by-le-length}
 use Rattle.std.specs.Prelude.{replicate}
-use Rattle.std.proofs.lemmas.List.{length-map, length-append}
-use Rattle.std.proofs.lemmas.List.Sums.{count_by-le-length}
-use Rattle.pc_lists.specs.Counts.{one_if}
-use Rattle.pc_lists.specs.Lists.{Has, Text}
-use Rattle.pc_lists.proofs.Elements.{has_on}
+use Rattle.pc_base.specs.{Counts.one_if, Lists.{Has, Text}}
+use Rattle.pc_base.proofs.Elements.{has_on}
 use Rattle.pc_tree.specs.Kinds.{is_abstract}
 use Rattle.pc_tree.specs.Tree as t
-use Rattle.pc_members.specs.MemberLists.{is_among, firsts, taken_over, of_each, trait_methods, abstract_methods, members, abstract_members, concrete_members}
-use Rattle.pc_members.specs.Members.{method_texts, has_added, written, without_body, own_texts}
-use Rattle.pc_members.specs.Parts.{added_if}
-use Rattle.pc_member_counts.specs.Numbers.{method_names}
-use Rattle.pc_member_counts.specs.Totals.{takes, gets, got, own_count, totals}
-use Rattle.pc_member_counts.proofs.Sights.{absent_is, sight_firsts}
-use Rattle.pc_member_counts.proofs.Picks.{same_count, count_none, count_taken_over, count_firsts}
-use Rattle.pc_member_counts.proofs.Covers.{method_names_differ, each_covered, trait_covered, whole_covered}
+use Rattle.pc_members.specs.{MemberLists.{is_among, firsts, taken_over, of_each, trait_methods, abstract_methods, members, abstract_members, concrete_members}, Members.{method_texts, has_added, written, without_body, own_texts}, Parts.added_if}
+use Rattle.pc_member_counts.specs.{Numbers.method_names, Totals.{takes, gets, got, own_count, totals}}
+use Rattle.pc_member_counts.proofs.{Sights.{absent_is, sight_firsts}, Picks.{same_count, count_none, count_taken_over, count_firsts}, Covers.{method_names_differ, each_covered, trait_covered, whole_covered}}
 
 -- ---- a trait or an interface
 

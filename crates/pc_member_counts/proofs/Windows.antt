@@ -1,40 +1,15 @@
 -- The counts of 64 consecutive names: how many of them each entity gets.
-use Rattle.std.proofs.Common.{◌≡◌, ℕ, suc, ◌+◌, ◌-◌, ◌<◌, ◌≤◌, min, List, [], ◌∷◌, ◌++◌, length, take, drop, map, Some, Bool, true, false, cond, ◌&&◌, ◌||◌, not, nat_eq, count_by, count_ones, refl, sym, ap, ◌∙◌, arith, if◌then◌else◌}
-use Rattle.std.specs.Prelude.{slice_get, replicate}
-use Rattle.std.specs.List.{list_any}
-use Rattle.std.proofs.lemmas.Bool.{lt-ltb}
-use Rattle.std.proofs.lemmas.List.{length-take, length-drop}
-use Rattle.std.proofs.lemmas.List.Sums.{sum_by-append}
-use Rattle.std.proofs.lemmas.List.Folds.{list_any-append}
-use Rattle.std.proofs.Math.Seq.{take-add}
-use Rattle.pc_masks.specs.declared.mask.Mask.{Mask}
-use Rattle.pc_masks.specs.Masks.{has, empty, first, meet}
-use Rattle.pc_lists.specs.Lists.{Differ, Text}
-use Rattle.pc_lists.proofs.Gets.{get_below, get_take, get_drop}
+use Rattle.std.proofs.{Common.{◌≡◌, ℕ, suc, ◌+◌, ◌-◌, ◌<◌, ◌≤◌, min, List, [], ◌∷◌, ◌++◌, length, take, drop, map, Some, Bool, true, false, cond, ◌&&◌, ◌||◌, not, nat_eq, count_by, count_ones, refl, sym, ap, ◌∙◌, arith, if◌then◌else◌}, lemmas.Bool.lt-ltb, lemmas.List.{length-take, length-drop}, lemmas.List.Sums.sum_by-append, lemmas.List.Folds.list_any-append, Math.Seq.take-add}
+use Rattle.std.specs.{Prelude.{slice_get, replicate}, List.list_any}
+use Rattle.pc_masks.specs.{declared.mask.Mask.Mask, Masks.{has, empty, first, meet}}
+use Rattle.pc_base.specs.Lists.{Differ, Text}
+use Rattle.pc_base.proofs.Gets.{get_below, get_take, get_drop}
 use Rattle.pc_tree.specs.Kinds.{is_abstract}
 use Rattle.pc_tree.specs.Tree as t
-use Rattle.pc_members.specs.MemberLists.{is_among, of_each, abstract_methods}
-use Rattle.pc_members.specs.Members.{field_texts, method_texts, entity_names, has_added, own_texts}
-use Rattle.pc_members.specs.Parts.{added_text}
-use Rattle.pc_members.specs.Founded.{IsFounded}
-use Rattle.pc_members.specs.Rounds.{ClosesOwn}
+use Rattle.pc_members.specs.{MemberLists.{is_among, of_each, abstract_methods}, Members.{field_texts, method_texts, entity_names, has_added, own_texts}, Parts.added_text, Founded.IsFounded, Rounds.ClosesOwn}
 use Rattle.pc_members.proofs.Completed.{among_parts}
-use Rattle.pc_member_counts.specs.declared.block.Block.{Block}
-use Rattle.pc_member_counts.specs.declared.listing.Listing.{Listing}
-use Rattle.pc_member_counts.specs.Blocks.{nothing}
-use Rattle.pc_member_counts.specs.Numbers.{numbers_in, listing}
-use Rattle.pc_member_counts.specs.Orders.{ordered}
-use Rattle.pc_member_counts.specs.Windows.{or_nothing, own_place, filled}
-use Rattle.pc_member_counts.specs.Fresh.{without_all, taken_from, count_present, count_taken, count_fresh, with_fresh}
-use Rattle.pc_member_counts.specs.Totals.{takes, gets, got}
-use Rattle.pc_member_counts.proofs.Truths.{and_true, and_false, own_bits}
-use Rattle.pc_member_counts.proofs.Sights.{absent_is}
-use Rattle.pc_member_counts.proofs.Seen.{has_meet, has_empty, has_first, has_no_first}
-use Rattle.pc_member_counts.proofs.Places.{have_number, without_has, without_out}
-use Rattle.pc_member_counts.proofs.Blocks.{IsSeen, AllBlocks, taken_seen}
-use Rattle.pc_member_counts.proofs.Fills.{all_filled, all_named_filled}
-use Rattle.pc_member_counts.proofs.Picks.{count_others}
-use Rattle.pc_member_counts.proofs.Ones.{count_places}
+use Rattle.pc_member_counts.specs.{declared.block.Block.Block, declared.listing.Listing.Listing, Blocks.nothing, Numbers.{numbers_in, listing}, Orders.ordered, Windows.{or_nothing, own_place, filled}, Fresh.{without_all, taken_from, count_present, count_taken, count_fresh, with_fresh}, Totals.{takes, gets, got}}
+use Rattle.pc_member_counts.proofs.{Truths.{and_true, and_false, own_bits}, Sights.absent_is, Seen.{has_meet, has_empty, has_first, has_no_first}, Places.{have_number, without_has, without_out}, Blocks.{IsSeen, AllBlocks, taken_seen}, Fills.{all_filled, all_named_filled}, Picks.count_others, Ones.count_places}
 
 -- The names from the start on, at most 64 of them.
 abbrev pub window : List Text → ℕ → List Text

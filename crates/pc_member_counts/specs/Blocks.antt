@@ -1,6 +1,6 @@
 -- How the code represents 64 consecutive names, by masks.
 use Rattle.std.specs.Prelude.{ℕ, Bool, true, false}
-use Rattle.pc_masks.specs.{declared.mask.Mask.Mask, Masks.empty, Masks.first, Masks.with_number, Masks.without_number, Masks.meet, Masks.join}
+use Rattle.pc_masks.specs.{declared.mask.Mask.Mask, Masks.{empty, first, with_number, without_number, meet, join}}
 use Rattle.pc_tree.specs.declared.kinds.EntityKind.{EntityKind}
 use Rattle.pc_members.specs.Members.{is_takable}
 use Rattle.pc_member_counts.specs.declared.block.Block.{Block}

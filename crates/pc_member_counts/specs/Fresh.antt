@@ -1,8 +1,8 @@
 -- How the code counts, by masks, the members that each entity gets in addition to those written in it.
 use Rattle.std.specs.Prelude.{ℕ, ◌+◌, ◌-◌, List, [], ◌∷◌, count_ones, if◌then◌else◌}
-use Rattle.pc_masks.specs.{declared.mask.Mask.Mask, Masks.empty, Masks.first, Masks.without_number, Masks.meet, Masks.join}
+use Rattle.pc_masks.specs.{declared.mask.Mask.Mask, Masks.{empty, first, without_number, meet, join}}
 use Rattle.pc_tree.specs.{declared.kinds.EntityKind.EntityKind, Kinds.is_abstract}
-use Rattle.pc_member_counts.specs.{declared.block.Block.Block, declared.listing.Listing.Listing, Blocks.takable, Windows.is_within, Windows.block_at, Windows.own_place}
+use Rattle.pc_member_counts.specs.{declared.block.Block.Block, declared.listing.Listing.Listing, Blocks.takable, Windows.{is_within, block_at, own_place}}
 use Rattle.pc_tree.specs.Tree as t
 
 abbrev pub without_one : ℕ → Mask → ℕ → Mask

@@ -1,8 +1,7 @@
 -- How the code numbers names: the names of a file's methods, and the numbers of names among them.
-use Rattle.std.specs.Prelude.{ℕ, List, [], ◌∷◌, ◌++◌, map}
-use Rattle.std.specs.{List.position_or_len, Str.bytes_eq}
-use Rattle.pc_lists.specs.Lists.{Text}
-use Rattle.pc_members.specs.{Members.field_texts, Members.method_texts, Members.has_added, Parts.added_text, MemberLists.with_names, Edges.entity_numbers}
+use Rattle.std.specs.{Prelude.{ℕ, List, [], ◌∷◌, ◌++◌, map}, List.position_or_len, Str.bytes_eq}
+use Rattle.pc_base.specs.Lists.{Text}
+use Rattle.pc_members.specs.{Members.{field_texts, method_texts, has_added}, Parts.added_text, MemberLists.with_names, Edges.entity_numbers}
 use Rattle.pc_member_counts.specs.declared.listing.Listing.{Listing}
 use Rattle.pc_tree.specs.Tree as t
 

@@ -1,7 +1,7 @@
 -- What the code computes for a file before it goes through the names.
 use Rattle.std.specs.Prelude.{◌≡◌, ℕ, List, [], map}
 use Rattle.pc_members.specs.{Members.entity_names, Founded.IsFounded, Rounds.ClosesOwn}
-use Rattle.pc_member_counts.specs.{declared.plan.Plan.Plan, Numbers.listing, Numbers.method_names, Orders.ordered}
+use Rattle.pc_member_counts.specs.{declared.plan.Plan.Plan, Numbers.{listing, method_names}, Orders.ordered}
 use Rattle.pc_tree.specs.Tree as t
 
 -- The first argument has the entities above each entity of the file.

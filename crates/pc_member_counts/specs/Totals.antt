@@ -1,9 +1,8 @@
 -- How many members an entity has: those written in it, and the names that it gets in addition.
-use Rattle.std.specs.Prelude.{ℕ, ◌+◌, Bool, ◌&&◌, not, List, [], ◌∷◌, length, count_by, if◌then◌else◌}
-use Rattle.std.specs.{List.list_any, Str.bytes_eq}
-use Rattle.pc_lists.specs.{Counts.one_if, Lists.Text}
+use Rattle.std.specs.{Prelude.{ℕ, ◌+◌, Bool, ◌&&◌, not, List, [], ◌∷◌, length, count_by, if◌then◌else◌}, List.list_any, Str.bytes_eq}
+use Rattle.pc_base.specs.{Counts.one_if, Lists.Text}
 use Rattle.pc_tree.specs.{declared.kinds.EntityKind.EntityKind, Kinds.is_abstract}
-use Rattle.pc_members.specs.{MemberLists.is_among, MemberLists.of_each, MemberLists.abstract_methods, Members.method_texts, Members.has_added, Members.is_takable, Members.own_texts}
+use Rattle.pc_members.specs.{MemberLists.{is_among, of_each, abstract_methods}, Members.{method_texts, has_added, is_takable, own_texts}}
 use Rattle.pc_tree.specs.Tree as t
 
 -- An entity of this kind takes over one of these methods with the name, if the name is new to it.

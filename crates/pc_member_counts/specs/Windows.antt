@@ -1,7 +1,7 @@
 -- How the code computes the blocks of a file's traits and interfaces for 64 names, from one number on.
 use Rattle.std.specs.Prelude.{◌≡◌, ℕ, ◌-◌, Bool, ◌&&◌, List, [], ◌∷◌, length, Option, Some, None, slice_get, slice_set, nat_le, nat_lt, if◌then◌else◌}
 use Rattle.pc_tree.specs.Kinds.{first_own}
-use Rattle.pc_member_counts.specs.{declared.block.Block.Block, declared.listing.Listing.Listing, Blocks.nothing, Blocks.single, Blocks.followed}
+use Rattle.pc_member_counts.specs.{declared.block.Block.Block, declared.listing.Listing.Listing, Blocks.{nothing, single, followed}}
 use Rattle.pc_tree.specs.Tree as t
 
 -- The number is one of the 64 from this one on.

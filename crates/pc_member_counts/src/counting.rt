@@ -10,7 +10,7 @@ ghost use Rattle.pc_member_counts.specs.Totals as spec;
 use crate::fresh::add_fresh;
 use crate::plan::{Plan, make_plan};
 use crate::window::{WIDTH, list_blocks};
-use pc_caps::List;
+use pc_base::List;
 use pc_members::{NameTable, has_added, own_part};
 use pc_tree::{Entity, File};
 use std::alloc::{AllocError, Global};

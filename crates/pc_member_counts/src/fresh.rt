@@ -8,7 +8,7 @@ ghost use Rattle.pc_member_counts.specs.Windows as windows;
 use crate::block::Block;
 use crate::listing::Listing;
 use crate::window::{block_at, is_within};
-use pc_caps::List;
+use pc_base::List;
 use pc_masks::Mask;
 use pc_tree::{Entity, EntityKind};
 use std::alloc::{AllocError, Global};

@@ -6,7 +6,7 @@ ghost use Rattle.pc_members.specs.Members as words;
 ghost use Rattle.pc_member_counts.specs.Numbers as spec;
 
 use crate::numbers::{number_fields, number_in, number_methods};
-use pc_caps::List;
+use pc_base::List;
 use pc_members::{NameTable, has_added, number_names};
 use pc_tree::Entity;
 use std::alloc::{AllocError, Global};

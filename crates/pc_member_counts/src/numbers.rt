@@ -4,7 +4,7 @@ ghost use Rattle.pc_tree.specs.View.{entity_view, field_view, method_view};
 ghost use Rattle.pc_members.specs.Members.{field_texts, method_texts};
 ghost use Rattle.pc_member_counts.specs.Numbers as spec;
 
-use pc_caps::List;
+use pc_base::List;
 use pc_members::{NameTable, add_methods};
 use pc_tree::{Entity, FieldDef, MethodDef};
 use std::alloc::{AllocError, Global};

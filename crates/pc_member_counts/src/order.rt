@@ -3,7 +3,7 @@ ghost use Rattle.std.specs.Prelude.{◌≡◌, ◌++◌, map, OnOk, IfOk};
 ghost use Rattle.pc_tree.specs.View.{entity_view};
 ghost use Rattle.pc_member_counts.specs.Orders as spec;
 
-use pc_caps::List;
+use pc_base::List;
 use pc_members::rank_of;
 use pc_tree::Entity;
 use std::alloc::{AllocError, Global};

@@ -7,7 +7,7 @@ ghost use Rattle.pc_member_counts.specs.Plans as spec;
 use crate::listing::{Listing, list_entities};
 use crate::numbers::table_names;
 use crate::order::list_order;
-use pc_caps::List;
+use pc_base::List;
 use pc_members::NameTable;
 use pc_tree::File;
 use std::alloc::{AllocError, Global};

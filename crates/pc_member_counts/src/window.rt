@@ -6,7 +6,7 @@ ghost use Rattle.pc_member_counts.specs.Windows as spec;
 
 use crate::block::Block;
 use crate::listing::Listing;
-use pc_caps::List;
+use pc_base::List;
 use pc_tree::{Entity, FIRST_OWN, MethodDef};
 use std::alloc::{AllocError, Global};
 

@@ -1,20 +1,11 @@
 -- The members of each entity, from a table of the methods of traits and interfaces.
 use Rattle.std.proofs.Common.{◌≡◌, ℕ, suc, ◌+◌, ◌&&◌, ◌||◌, not, List, [], ◌∷◌, ◌++◌, map, Some, Bool, true, false, refl, sym, ap, ◌∙◌, subst, length, arith, append_assoc, if◌then◌else◌}
-use Rattle.std.specs.Prelude.{slice_get}
-use Rattle.std.specs.Str.{bytes_eq}
-use Rattle.pc_tree.specs.declared.kinds.EntityKind.{EntityKind}
-use Rattle.pc_tree.specs.Kinds.{is_abstract}
+use Rattle.std.specs.{Prelude.slice_get, Str.bytes_eq}
+use Rattle.pc_tree.specs.{declared.kinds.EntityKind.EntityKind, Kinds.is_abstract}
 use Rattle.pc_tree.specs.Tree as t
-use Rattle.pc_lists.specs.Lists.{Text}
-use Rattle.pc_members.specs.MemberLists.{is_among, with_name, with_names, methods_taken_over, of_each, abstract_methods, members, abstract_members, concrete_members}
-use Rattle.pc_members.specs.Parts.{or_no_members}
-use Rattle.pc_members.specs.Members.{entity_names, has_added, IsTransitiveClosure, Member, written, without_body, is_takable, own_texts}
-use Rattle.pc_members.specs.Parts.{added_if}
-use Rattle.pc_members.specs.Founded.{IsFounded}
-use Rattle.pc_members.specs.Rounds.{ClosesOwn, Knows, methods_written, bodiless, taken_members, completed, completed_from, concrete, own_members, named_all}
-use Rattle.pc_members.proofs.Differences.{equal_texts}
-use Rattle.pc_members.proofs.Ranks.{all_named}
-use Rattle.pc_members.proofs.Rounding.{knows_all}
+use Rattle.pc_base.specs.Lists.{Text}
+use Rattle.pc_members.specs.{MemberLists.{is_among, with_name, with_names, methods_taken_over, of_each, abstract_methods, members, abstract_members, concrete_members}, Parts.{or_no_members, added_if}, Members.{entity_names, has_added, IsTransitiveClosure, Member, written, without_body, is_takable, own_texts}, Founded.IsFounded, Rounds.{ClosesOwn, Knows, methods_written, bodiless, taken_members, completed, completed_from, concrete, own_members, named_all}}
+use Rattle.pc_members.proofs.{Differences.equal_texts, Ranks.all_named, Rounding.knows_all}
 
 -- ---- known names
 

@@ -1,14 +1,9 @@
 -- The names of a table differ.
-use Rattle.std.proofs.Common.{◌≡◌, ℕ, zero, suc, ◌||◌, List, [], ◌∷◌, ◌++◌, length, Some, Bool, true, false, refl, sym, ap, ◌∙◌, if◌then◌else◌, inl, inr, ⊎_elim, ◌⊎◌}
-use Rattle.std.specs.Prelude.{slice_get}
-use Rattle.std.specs.Str.{bytes_eq}
-use Rattle.std.proofs.lemmas.Slice.Eq.{bytes_eq-Decides}
-use Rattle.std.proofs.lemmas.Option.{same_Some, none-some}
-use Rattle.std.proofs.lemmas.Cmp.{nat_list_eq_equiv}
-use Rattle.pc_lists.specs.Lists.{Has, Differ, Text}
+use Rattle.std.proofs.{Common.{◌≡◌, ℕ, zero, suc, ◌||◌, List, [], ◌∷◌, ◌++◌, length, Some, Bool, true, false, refl, sym, ap, ◌∙◌, if◌then◌else◌, inl, inr, ⊎_elim, ◌⊎◌}, lemmas.Slice.Eq.bytes_eq-Decides, lemmas.Option.{same_Some, none-some}, lemmas.Cmp.nat_list_eq_equiv}
+use Rattle.std.specs.{Prelude.slice_get, Str.bytes_eq}
+use Rattle.pc_base.specs.Lists.{Has, Differ, Text}
 use Rattle.pc_members.specs.MemberLists.{is_among, with_name, with_names}
-use Rattle.pc_lists.proofs.Bools.{true_false}
-use Rattle.pc_lists.proofs.Elements.{has_on}
+use Rattle.pc_base.proofs.{Bools.true_false, Elements.has_on}
 
 pub same_text : (x : Text) → bytes_eq x x ≡ true
 same_text x = nat_list_eq_equiv.refl x

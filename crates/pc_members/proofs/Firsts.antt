@@ -1,12 +1,8 @@
 -- The first member with each name, and what is taken over, part by part.
 use Rattle.std.proofs.Common.{◌≡◌, List, [], ◌∷◌, ◌++◌, Bool, true, false, refl, sym, ap, ◌∙◌, append_assoc, if◌then◌else◌}
-use Rattle.pc_tree.specs.declared.kinds.EntityKind.{EntityKind}
-use Rattle.pc_tree.specs.declared.written_names.Name.{Name}
-use Rattle.pc_lists.specs.Lists.{Text}
-use Rattle.pc_members.specs.MemberLists.{is_among, with_names}
-use Rattle.pc_members.specs.Parts.{find_name}
-use Rattle.pc_members.specs.Members.{Member, member_text}
-use Rattle.pc_members.specs.Rounds.{first_members, member_texts, taken_members, with_taken, is_taken, named_all, table_members}
+use Rattle.pc_tree.specs.{declared.kinds.EntityKind.EntityKind, declared.written_names.Name.Name}
+use Rattle.pc_base.specs.Lists.{Text}
+use Rattle.pc_members.specs.{MemberLists.{is_among, with_names}, Parts.find_name, Members.{Member, member_text}, Rounds.{first_members, member_texts, taken_members, with_taken, is_taken, named_all, table_members}}
 
 -- First those of the one list, then those of the other whose names are new.
 pub first_parts : (known : List Text) (xs ys : List Member) → first_members known (xs ++ ys) ≡ first_members known xs ++ first_members (with_names known (member_texts xs)) ys

@@ -1,13 +1,8 @@
 -- Marks that say which numbers a list has, when a number is added.
-use Rattle.std.proofs.Common.{◌≡◌, ◌≢◌, ℕ, zero, suc, ◌≤◌, ◌<◌, List, [], ◌∷◌, ◌++◌, length, Some, Bool, true, false, nat_eq, ◌||◌, refl, sym, ap, ◌∙◌, arith, if◌then◌else◌}
-use Rattle.std.specs.Prelude.{slice_get, slice_set, replicate}
-use Rattle.std.specs.List.{list_any}
-use Rattle.std.proofs.lemmas.Cmp.{nat_eq_equiv}
-use Rattle.std.proofs.lemmas.Option.{same_Some, none-some}
-use Rattle.std.proofs.lemmas.List.{length-set}
-use Rattle.pc_lists.proofs.Gets.{get_below, get_set_same, get_set_other}
-use Rattle.pc_members.specs.Edges.{has_number, added_last}
-use Rattle.pc_members.specs.Marks.{IsMarked}
+use Rattle.std.proofs.{Common.{◌≡◌, ◌≢◌, ℕ, zero, suc, ◌≤◌, ◌<◌, List, [], ◌∷◌, ◌++◌, length, Some, Bool, true, false, nat_eq, ◌||◌, refl, sym, ap, ◌∙◌, arith, if◌then◌else◌}, lemmas.Cmp.nat_eq_equiv, lemmas.Option.{same_Some, none-some}, lemmas.List.length-set}
+use Rattle.std.specs.{Prelude.{slice_get, slice_set, replicate}, List.list_any}
+use Rattle.pc_base.proofs.Gets.{get_below, get_set_same, get_set_other}
+use Rattle.pc_members.specs.{Edges.{has_number, added_last}, Marks.IsMarked}
 
 -- The test that finds an element equal to a number finds the number.
 pub any_listed : (xs : List ℕ) (x : ℕ) → list_any (λ y. nat_eq y x) xs ≡ has_number xs x

@@ -1,15 +1,11 @@
 -- Entities by their names.
-use Rattle.std.proofs.Common.{◌≡◌, ℕ, zero, suc, ◌+◌, List, [], ◌∷◌, ◌++◌, length, Some, Bool, true, false, refl, sym, ap, ◌∙◌, arith, if◌then◌else◌, inl, inr}
-use Rattle.std.specs.Prelude.{slice_get, ◌⊎◌}
-use Rattle.std.specs.Str.{bytes_eq}
-use Rattle.std.proofs.lemmas.Option.{same_Some, none-some}
+use Rattle.std.proofs.{Common.{◌≡◌, ℕ, zero, suc, ◌+◌, List, [], ◌∷◌, ◌++◌, length, Some, Bool, true, false, refl, sym, ap, ◌∙◌, arith, if◌then◌else◌, inl, inr}, lemmas.Option.{same_Some, none-some}}
+use Rattle.std.specs.{Prelude.{slice_get, ◌⊎◌}, Str.bytes_eq}
 use Rattle.pc_tree.specs.Kinds.{is_abstract}
 use Rattle.pc_tree.specs.Tree as t
-use Rattle.pc_lists.specs.Lists.{Has, Differ, Text}
-use Rattle.pc_lists.proofs.Gets.{get_append, get_map}
-use Rattle.pc_lists.proofs.Elements.{has_on, has_either}
-use Rattle.pc_members.specs.MemberLists.{is_among, with_name, with_traits, trait_names, entity_named}
-use Rattle.pc_members.specs.Members.{built_in_names, texts_of, entity_names}
+use Rattle.pc_base.specs.Lists.{Has, Differ, Text}
+use Rattle.pc_base.proofs.{Gets.{get_append, get_map}, Elements.{has_on, has_either}}
+use Rattle.pc_members.specs.{MemberLists.{is_among, with_name, with_traits, trait_names, entity_named}, Members.{built_in_names, texts_of, entity_names}}
 use Rattle.pc_members.proofs.Differences.{equal_texts}
 
 pub named_is : (es : List t.Entity) (name : Text) (f : t.Entity) → entity_named es name ≡ Some f → Has es f × (f.name.text ≡ name)

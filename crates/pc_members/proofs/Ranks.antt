@@ -1,30 +1,14 @@
 -- A trait has fewer entities above it than one that names it. So traits in the order of the number of entities above
 -- them come after those that they name.
-use Rattle.std.proofs.Common.{◌≡◌, ℕ, zero, suc, ◌+◌, ◌-◌, ◌<◌, ◌≤◌, List, [], ◌∷◌, ◌++◌, length, map, Option, Some, None, Bool, true, false, cond, refl, sym, ap, ◌∙◌, subst, arith, if◌then◌else◌}
-use Rattle.std.specs.Prelude.{slice_get, replicate, position}
-use Rattle.std.specs.List.{position_from}
-use Rattle.std.specs.Str.{bytes_eq}
-use Rattle.std.proofs.lemmas.Option.{same_Some, none-some, slice_get-get_or}
-use Rattle.std.proofs.lemmas.List.{map-append}
-use Rattle.std.proofs.lemmas.List.Quantifiers.{position-Some}
-use Rattle.std.proofs.lemmas.Iterator.Adapters.{position_from-zero}
+use Rattle.std.proofs.{Common.{◌≡◌, ℕ, zero, suc, ◌+◌, ◌-◌, ◌<◌, ◌≤◌, List, [], ◌∷◌, ◌++◌, length, map, Option, Some, None, Bool, true, false, cond, refl, sym, ap, ◌∙◌, subst, arith, if◌then◌else◌}, lemmas.Option.{same_Some, none-some, slice_get-get_or}, lemmas.List.map-append, lemmas.List.Quantifiers.position-Some, lemmas.Iterator.Adapters.position_from-zero}
+use Rattle.std.specs.{Prelude.{slice_get, replicate, position}, List.position_from, Str.bytes_eq}
 use Rattle.indexmap.proofs.IndexTableLemmas.Probe.{pigeonhole}
-use Rattle.pc_lists.proofs.Gets.{get_below, get_within, get_append, get_map, map_get}
-use Rattle.pc_tree.specs.declared.written_names.Name.{Name}
-use Rattle.pc_tree.specs.Kinds.{is_abstract, first_own}
+use Rattle.pc_base.proofs.{Gets.{get_below, get_within, get_append, get_map, map_get}, Bools.true_false, Elements.has_on}
+use Rattle.pc_tree.specs.{declared.written_names.Name.Name, Kinds.{is_abstract, first_own}}
 use Rattle.pc_tree.specs.Tree as t
-use Rattle.pc_lists.specs.Lists.{Has, Differ, Ascends, Text}
-use Rattle.pc_members.specs.MemberLists.{is_among, firsts, entity_named, of_each, trait_methods, abstract_methods}
-use Rattle.pc_members.specs.Parts.{find_name, or_no_members, of_entity}
-use Rattle.pc_members.specs.Members.{built_in_names, texts_of, entity_names, entity_at, ProvidesInFile, LeadsInFile, one, more, IsAbove, IsTransitiveClosure, Member, written}
-use Rattle.pc_members.specs.Parts.{or_nil}
-use Rattle.pc_members.specs.Founded.{IsFounded}
-use Rattle.pc_members.proofs.Differences.{same_text, equal_texts}
-use Rattle.pc_lists.proofs.Bools.{true_false}
-use Rattle.pc_members.proofs.Closings.{nobody, no_entity}
-use Rattle.pc_lists.proofs.Elements.{has_on}
-use Rattle.pc_members.proofs.Named.{named_is, one_entity, is_trait_named}
-use Rattle.pc_members.specs.Rounds.{first_members, named_all, table_members, gathered, methods_written}
+use Rattle.pc_base.specs.Lists.{Has, Differ, Ascends, Text}
+use Rattle.pc_members.specs.{MemberLists.{is_among, firsts, entity_named, of_each, trait_methods, abstract_methods}, Parts.{find_name, or_no_members, of_entity, or_nil}, Members.{built_in_names, texts_of, entity_names, entity_at, ProvidesInFile, LeadsInFile, one, more, IsAbove, IsTransitiveClosure, Member, written}, Founded.IsFounded, Rounds.{first_members, named_all, table_members, gathered, methods_written}}
+use Rattle.pc_members.proofs.{Differences.{same_text, equal_texts}, Closings.{nobody, no_entity}, Named.{named_is, one_entity, is_trait_named}}
 
 -- ---- lists without equal elements
 

@@ -1,16 +1,10 @@
 -- What is reached is exactly what chains of edges lead to, listed in ascending order.
-use Rattle.std.proofs.Common.{◌≡◌, ℕ, zero, suc, ◌+◌, ◌≤◌, ◌<◌, List, [], ◌∷◌, ◌++◌, length, Option, Some, None, Bool, true, false, nat_eq, refl, sym, ap, ◌∙◌, subst, arith, inl, inr, ⊎_elim, ◌⊎◌, if◌then◌else◌}
-use Rattle.std.specs.Prelude.{slice_get}
-use Rattle.std.specs.List.{IsDistinct}
-use Rattle.std.proofs.lemmas.Cmp.{nat_eq_equiv}
-use Rattle.std.proofs.lemmas.Option.{same_Some, none-some}
-use Rattle.std.proofs.lemmas.Map.Keys.{IsDistinct-push}
-use Rattle.std.proofs.lemmas.Map.Steps.{length-le_from_distinct_below}
-use Rattle.pc_lists.specs.Lists.{Has, Ascends, IsIn}
+use Rattle.std.proofs.{Common.{◌≡◌, ℕ, zero, suc, ◌+◌, ◌≤◌, ◌<◌, List, [], ◌∷◌, ◌++◌, length, Option, Some, None, Bool, true, false, nat_eq, refl, sym, ap, ◌∙◌, subst, arith, inl, inr, ⊎_elim, ◌⊎◌, if◌then◌else◌}, lemmas.Cmp.nat_eq_equiv, lemmas.Option.{same_Some, none-some}, lemmas.Map.Keys.IsDistinct-push, lemmas.Map.Steps.length-le_from_distinct_below}
+use Rattle.std.specs.{Prelude.slice_get, List.IsDistinct}
+use Rattle.pc_base.specs.Lists.{Has, Ascends, IsIn}
 use Rattle.pc_members.specs.Edges.{Edges, edges_from, has_number, added_last, add_all, reach_turn, grow, reached, ascending, above_from, EdgePath, link, links}
 use Rattle.pc_members.proofs.Reaches.{any_has, has_in, get_in, in_get, only_led, all_led}
-use Rattle.pc_lists.proofs.Bools.{true_false}
-use Rattle.pc_lists.proofs.Elements.{ascends_none}
+use Rattle.pc_base.proofs.{Bools.true_false, Elements.ascends_none}
 
 -- ---- what is found is different
 

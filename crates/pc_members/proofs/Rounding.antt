@@ -1,16 +1,11 @@
 -- What a table of the methods of traits and interfaces has, entity by entity.
-use Rattle.std.proofs.Common.{◌≡◌, ◌≢◌, ℕ, ◌+◌, ◌<◌, List, length, drop, Some, Bool, true, false, nat_eq, refl, sym, ap, ◌∙◌, subst, arith, inl, inr}
+use Rattle.std.proofs.{Common.{◌≡◌, ◌≢◌, ℕ, ◌+◌, ◌<◌, List, length, drop, Some, Bool, true, false, nat_eq, refl, sym, ap, ◌∙◌, subst, arith, inl, inr}, lemmas.Option.same_Some, lemmas.List.length-set}
 use Rattle.std.specs.Prelude.{slice_get, slice_set}
-use Rattle.std.proofs.lemmas.Option.{same_Some}
-use Rattle.std.proofs.lemmas.List.{length-set}
-use Rattle.pc_lists.proofs.Gets.{get_below, get_drop, get_set_same, get_set_other}
+use Rattle.pc_base.proofs.Gets.{get_below, get_drop, get_set_same, get_set_other}
 use Rattle.pc_tree.specs.Kinds.{is_abstract, first_own}
 use Rattle.pc_tree.specs.Tree as t
-use Rattle.pc_lists.specs.Lists.{Text}
-use Rattle.pc_members.specs.Members.{entity_names, Member}
-use Rattle.pc_members.specs.Parts.{or_nil}
-use Rattle.pc_members.specs.Founded.{IsFounded}
-use Rattle.pc_members.specs.Rounds.{gathered, methods_written, rank, ClosesOwn, Knows, IsReached}
+use Rattle.pc_base.specs.Lists.{Text}
+use Rattle.pc_members.specs.{Members.{entity_names, Member}, Parts.or_nil, Founded.IsFounded, Rounds.{gathered, methods_written, rank, ClosesOwn, Knows, IsReached}}
 use Rattle.pc_members.proofs.Ranks.{gathers, rank_few, rank_at}
 
 no_less : {T : Type 0} → (a : ℕ) → a < 0 → T

@@ -1,10 +1,8 @@
 -- Tables of names that grow.
 use Rattle.std.proofs.Common.{◌≡◌, List, [], ◌∷◌, ◌++◌, refl, sym, ap, ◌∙◌, append_assoc}
 use Rattle.pc_tree.specs.Tree as t
-use Rattle.pc_lists.specs.Lists.{Text}
-use Rattle.pc_members.specs.Members.{field_texts, method_texts, has_added, own_texts}
-use Rattle.pc_members.specs.Parts.{added_text}
-use Rattle.pc_members.specs.MemberLists.{with_name, with_names}
+use Rattle.pc_base.specs.Lists.{Text}
+use Rattle.pc_members.specs.{Members.{field_texts, method_texts, has_added, own_texts}, Parts.added_text, MemberLists.{with_name, with_names}}
 
 -- The first ones, then the others.
 pub names_in_parts : (names xs ys : List Text) → with_names names (xs ++ ys) ≡ with_names (with_names names xs) ys

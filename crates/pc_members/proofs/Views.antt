@@ -1,10 +1,7 @@
 -- A list of keys, and the list of what they represent.
-use Rattle.std.proofs.Common.{◌≡◌, ℕ, zero, suc, ◌∙◌, ◌+◌, List, [], ◌∷◌, ◌++◌, Bool, true, false, not, cond, map, ◌||◌, Vec, Global, refl, ap}
-use Rattle.std.specs.List.{list_any, position, position_or_len, prefix_len}
-use Rattle.std.specs.Prelude.{Option, Some, None, nat_lt, slice_get}
-use Rattle.std.specs.Str.{bytes_eq}
+use Rattle.std.proofs.{Common.{◌≡◌, ℕ, zero, suc, ◌∙◌, ◌+◌, List, [], ◌∷◌, ◌++◌, Bool, true, false, not, cond, map, ◌||◌, Vec, Global, refl, ap}, lemmas.List.{map-append, length-map}}
+use Rattle.std.specs.{List.{list_any, position, position_or_len, prefix_len}, Prelude.{Option, Some, None, nat_lt, slice_get}, Str.bytes_eq}
 use Rattle.pc_members.specs.MemberLists.{with_name}
-use Rattle.std.proofs.lemmas.List.{map-append, length-map}
 
 module _ {K X : Type 0} (f : K → X) (p : X → Bool) where
   pub list_any_shown : (ks : List K) → list_any p (map f ks) ≡ list_any (λ k. p (f k)) ks

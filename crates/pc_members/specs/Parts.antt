@@ -1,7 +1,6 @@
 -- Parts of the definitions of members, each with a name.
-use Rattle.std.specs.Prelude.{ℕ, Bool, List, [], Option, position, codes, unwrap_or}
-use Rattle.std.specs.{Option.option_map_or, Str.bytes_eq}
-use Rattle.pc_lists.specs.Lists.{Text, one_if}
+use Rattle.std.specs.{Prelude.{ℕ, Bool, List, [], Option, position, codes, unwrap_or}, Option.option_map_or, Str.bytes_eq}
+use Rattle.pc_base.specs.Lists.{Text, one_if}
 use Rattle.pc_members.specs.Members.{Member, added}
 use Rattle.pc_tree.specs.Tree as t
 

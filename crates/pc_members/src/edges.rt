@@ -6,7 +6,7 @@ ghost use Rattle.pc_members.specs.Edges as spec;
 ghost use Rattle.pc_members.specs.Members.{entity_names};
 
 use crate::table::NameTable;
-use pc_caps::List;
+use pc_base::List;
 use pc_tree::{Entity, FIRST_OWN, File, Name};
 use std::alloc::{AllocError, Global};
 

@@ -15,7 +15,7 @@ use crate::member::{Member, own_members};
 use crate::table::NameTable;
 use crate::texts::own_names;
 use crate::traits::{list_methods, named_at};
-use pc_caps::List;
+use pc_base::List;
 use pc_tree::{Entity, EntityKind, FIRST_OWN, File, Name};
 use std::alloc::{AllocError, Global};
 

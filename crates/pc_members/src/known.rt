@@ -6,7 +6,7 @@ ghost use Rattle.pc_members.specs.Views.{member_view};
 
 use crate::member::Member;
 use crate::table::NameTable;
-use pc_caps::List;
+use pc_base::List;
 use std::alloc::{AllocError, Global};
 use std::marker::Model;
 

@@ -7,7 +7,7 @@ ghost use Rattle.pc_members.specs.Rounds as rounds;
 ghost use Rattle.pc_members.specs.Views.{member_view, members_view};
 
 use crate::constructors::has_added;
-use pc_caps::{List, Span};
+use pc_base::{List, Span};
 use pc_tree::{Entity, EntityKind, MethodDef, MethodWord};
 use std::alloc::{AllocError, Global};
 

@@ -2,7 +2,7 @@
 ghost use Rattle.std.specs.Prelude.{◌≡◌, ◌<◌, ◌+◌, [], ◌++◌, ◌^◌, false, length, true, OnOk, IfOk, replicate, slice_get, slice_set};
 ghost use Rattle.pc_members.specs.Edges as spec;
 
-use pc_caps::List;
+use pc_base::List;
 use std::alloc::{AllocError, Global};
 use std::marker::Model;
 

@@ -12,7 +12,7 @@ ghost use Rattle.pc_members.specs.Numbered.{maybe_numbered, numbered_table, numb
 use crate::known::{Known, Numbered};
 use crate::member::Member;
 use crate::table::NameTable;
-use pc_caps::List;
+use pc_base::List;
 use pc_tree::{Entity, FIRST_OWN, File, MethodDef, Name};
 use std::alloc::{AllocError, Global};
 

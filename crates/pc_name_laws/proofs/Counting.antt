@@ -1,28 +1,17 @@
 -- The passes over names after the declarations: numbers of methods, `Main`, and cycles.
-use Rattle.std.proofs.Common.{◌≡◌, ℕ, zero, suc, ◌+◌, ◌<◌, List, [], ◌∷◌, ◌++◌, map, Some, Bool, true, false, refl, sym, ap, ◌∙◌, inl, inr, ⊎_elim, arith, if◌then◌else◌}
-use Rattle.std.specs.Prelude.{◌⊎◌, slice_get, nat_lt, codes}
-use Rattle.std.specs.Str.{bytes_eq}
-use Rattle.std.proofs.lemmas.Bool.{ltb-true}
-use Rattle.std.proofs.lemmas.Option.{same_Some, none-some}
-use Rattle.pc_lists.specs.Lists.{Has, Text}
-use Rattle.pc_lists.proofs.Bools.{true_false, false_true}
+use Rattle.std.proofs.{Common.{◌≡◌, ℕ, zero, suc, ◌+◌, ◌<◌, List, [], ◌∷◌, ◌++◌, map, Some, Bool, true, false, refl, sym, ap, ◌∙◌, inl, inr, ⊎_elim, arith, if◌then◌else◌}, lemmas.Bool.ltb-true, lemmas.Option.{same_Some, none-some}}
+use Rattle.std.specs.{Prelude.{◌⊎◌, slice_get, nat_lt, codes}, Str.bytes_eq}
+use Rattle.pc_base.specs.{Lists.{Has, Text}, Limits.method_limit}
+use Rattle.pc_base.proofs.Bools.{true_false, false_true}
 use Rattle.pc_tree.specs.Tree as t
-use Rattle.pc_names.specs.declared.fault.NameFault.{NameFault}
+use Rattle.pc_names.specs.{declared.fault.NameFault.NameFault, Faults.{count_faults, main_faults}, Parts.{method_count, where_}, Mains.is_main, Laws.fault_start}
 use Rattle.pc_names.specs.declared.fault.NameFault.TheVariants as fault
 use Rattle.pc_names.specs.declared.fault.Which.TheVariants as which
 use Rattle.pc_members.specs.Members.{texts_of}
-use Rattle.pc_names.specs.Faults.{count_faults, main_faults}
-use Rattle.pc_names.specs.Parts.{method_count, where_}
-use Rattle.pc_caps.specs.Limits.{method_limit}
-use Rattle.pc_names.specs.Mains.{is_main}
-use Rattle.pc_names.specs.Laws.{fault_start}
 use Rattle.pc_members.proofs.Differences.{same_text, equal_texts}
 use Rattle.pc_body_spec.proofs.Places.{Sub, none, skip, take}
-use Rattle.pc_name_laws.specs.Declared.{HasBefore}
-use Rattle.pc_name_laws.specs.Turns.{methods_to, IsCountFault, IsMainFault}
-use Rattle.pc_name_laws.proofs.Lists.{Lists, lists_none, lists_one, lists_both, lists_turned, lists_where, Tests}
-use Rattle.pc_name_laws.proofs.Orders.{entity_start}
-use Rattle.pc_name_laws.proofs.Firsts.{Heads}
+use Rattle.pc_name_laws.specs.{Declared.HasBefore, Turns.{methods_to, IsCountFault, IsMainFault}}
+use Rattle.pc_name_laws.proofs.{Lists.{Lists, lists_none, lists_one, lists_both, lists_turned, lists_where, Tests}, Orders.entity_start, Firsts.Heads}
 
 -- ---- counts
 

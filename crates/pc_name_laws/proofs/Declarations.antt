@@ -1,33 +1,20 @@
 -- The faults of the names and declarations of entities are those that are listed.
-use Rattle.std.proofs.Common.{◌≡◌, ℕ, zero, suc, ◌+◌, ◌<◌, ◌≤◌, ◌&&◌, ◌||◌, List, [], ◌∷◌, ◌++◌, map, length, take, Option, Some, None, Bool, true, false, not, refl, sym, ap, ◌∙◌, subst, inl, inr, ⊎_elim, arith, append_assoc, if◌then◌else◌}
+use Rattle.std.proofs.{Common.{◌≡◌, ℕ, zero, suc, ◌+◌, ◌<◌, ◌≤◌, ◌&&◌, ◌||◌, List, [], ◌∷◌, ◌++◌, map, length, take, Option, Some, None, Bool, true, false, not, refl, sym, ap, ◌∙◌, subst, inl, inr, ⊎_elim, arith, append_assoc, if◌then◌else◌}, lemmas.Bool.{ltb-true, cases_lt}, lemmas.List.length-append, lemmas.Option.{same_Some, none-some}}
 use Rattle.std.specs.Prelude.{◌⊎◌, slice_get, nat_lt, codes}
-use Rattle.std.proofs.lemmas.Bool.{ltb-true, cases_lt}
-use Rattle.std.proofs.lemmas.List.{length-append}
-use Rattle.std.proofs.lemmas.Option.{same_Some, none-some}
-use Rattle.pc_caps.specs.Limits.{field_limit}
-use Rattle.pc_lists.specs.Lists.{Has, Text}
-use Rattle.pc_lists.proofs.Bools.{true_false, false_true}
-use Rattle.pc_lists.proofs.Elements.{has_front, has_behind, has_either}
-use Rattle.pc_lists.proofs.Gets.{get_take, take_get}
-use Rattle.pc_tree.specs.declared.file.ParamDef.{ParamDef}
-use Rattle.pc_tree.specs.declared.written_names.Name.{Name}
-use Rattle.pc_tree.specs.declared.written_names.TypeRef.{TypeRef}
-use Rattle.pc_tree.specs.Kinds.{is_abstract}
+use Rattle.pc_base.specs.{Limits.field_limit, Lists.{Has, Text}}
+use Rattle.pc_base.proofs.{Bools.{true_false, false_true}, Elements.{has_front, has_behind, has_either}, Gets.{get_take, take_get}}
+use Rattle.pc_tree.specs.{declared.file.ParamDef.ParamDef, declared.written_names.Name.Name, declared.written_names.TypeRef.TypeRef, Kinds.is_abstract}
 use Rattle.pc_tree.specs.Tree as t
-use Rattle.pc_names.specs.declared.fault.NameFault.{NameFault}
+use Rattle.pc_names.specs.{declared.fault.NameFault.NameFault, Faults.either_fault, Parts.where_}
 use Rattle.pc_names.specs.declared.fault.NameFault.TheVariants as fault
 use Rattle.pc_names.specs.declared.fault.Which.TheVariants as which
-use Rattle.pc_members.specs.MemberLists.{is_among, with_name, with_traits, trait_names}
-use Rattle.pc_members.specs.Members.{built_in_names, entity_names, texts_of, has_added, field_texts, method_texts}
+use Rattle.pc_members.specs.{MemberLists.{is_among, with_name, with_traits, trait_names}, Members.{built_in_names, entity_names, texts_of, has_added, field_texts, method_texts}}
 use Rattle.pc_names.specs.Faults as spec
 use Rattle.pc_names.specs.Parts as parts
-use Rattle.pc_names.specs.Faults.{either_fault}
-use Rattle.pc_names.specs.Parts.{where_}
 use Rattle.pc_members.proofs.Named.{is_trait_named}
 use Rattle.pc_file_spec.proofs.Tables.{names_there, names_kept}
-use Rattle.pc_name_laws.specs.Uses.{param_texts}
+use Rattle.pc_name_laws.specs.{Uses.param_texts, Declared.{HasBefore, IsRepeated, IsEntityFault, IsEntity, IsTrait, HasType, IsMissingName, IsTwice, IsDeclarationFault}}
 use Rattle.pc_name_laws.specs.Declared as law
-use Rattle.pc_name_laws.specs.Declared.{HasBefore, IsRepeated, IsEntityFault, IsEntity, IsTrait, HasType, IsMissingName, IsTwice, IsDeclarationFault}
 use Rattle.pc_name_laws.proofs.Lists.{Lists, lists_none, lists_both, lists_turned, Tests, lists_where, lists_either, tests_not, tests_or, tests_among, tests_before, tests_turned, walk, AtOne, lists_walk, lists_each, first_count}
 
 -- ---- the limits

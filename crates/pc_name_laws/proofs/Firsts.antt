@@ -1,11 +1,9 @@
 -- The first fault of a list, and its place.
-use Rattle.std.proofs.Common.{◌≡◌, ℕ, zero, suc, ◌<◌, List, [], ◌∷◌, ◌++◌, Some, refl, sym, ap, ◌∙◌, inl, inr, arith}
+use Rattle.std.proofs.{Common.{◌≡◌, ℕ, zero, suc, ◌<◌, List, [], ◌∷◌, ◌++◌, Some, refl, sym, ap, ◌∙◌, inl, inr, arith}, lemmas.Option.{same_Some, none-some}}
 use Rattle.std.specs.Prelude.{◌⊎◌, slice_get}
-use Rattle.std.proofs.lemmas.Option.{same_Some, none-some}
-use Rattle.pc_lists.specs.Lists.{Has, Ascends}
-use Rattle.pc_names.specs.declared.fault.NameFault.{NameFault}
+use Rattle.pc_base.specs.Lists.{Has, Ascends}
+use Rattle.pc_names.specs.{declared.fault.NameFault.NameFault, Faults.IsFirstNameFault}
 use Rattle.pc_names.specs.declared.fault.NameFault.TheVariants as fault
-use Rattle.pc_names.specs.Faults.{IsFirstNameFault}
 use Rattle.pc_body_spec.proofs.Places.{Sub, Rising, rising}
 
 abbrev pub Heads : {T : Type 0} → List T → T → Type 0

@@ -1,55 +1,28 @@
 -- Names and members together: which fault of a file is reported.
-use Rattle.std.proofs.Common.{◌≡◌, ℕ, suc, ◌+◌, ◌*◌, ◌<◌, ◌≤◌, ◌&&◌, Bool, true, false, List, [], ◌∷◌, ◌++◌, take, drop, length, Option, Some, None, refl, sym, ap, ◌∙◌, subst, inl, inr, ⊎_elim, arith}
+use Rattle.std.proofs.{Common.{◌≡◌, ℕ, suc, ◌+◌, ◌*◌, ◌<◌, ◌≤◌, ◌&&◌, Bool, true, false, List, [], ◌∷◌, ◌++◌, take, drop, length, Option, Some, None, refl, sym, ap, ◌∙◌, subst, inl, inr, ⊎_elim, arith}, lemmas.Option.{same_Some, none-some}, lemmas.Bool.cases_lt, lemmas.List.take_all}
 use Rattle.std.specs.Prelude.{slice_get, Result, Ok, Err}
-use Rattle.std.proofs.lemmas.Option.{same_Some, none-some}
-use Rattle.std.proofs.lemmas.Bool.{cases_lt}
-use Rattle.std.proofs.lemmas.List.{take_all}
-use Rattle.pc_lists.specs.Lists.{Has}
-use Rattle.pc_lists.proofs.Gets.{get_below, take_get}
-use Rattle.pc_tree.specs.declared.written_names.Name.{Name}
-use Rattle.pc_tree.specs.Kinds.{is_abstract, first_own}
+use Rattle.pc_base.specs.{Lists.Has, Limits.node_limit}
+use Rattle.pc_base.proofs.Gets.{get_below, take_get}
+use Rattle.pc_tree.specs.{declared.written_names.Name.Name, Kinds.{is_abstract, first_own}}
 use Rattle.pc_tree.specs.Tree as t
-use Rattle.pc_core.specs.declared.nodes.Node.{Node}
-use Rattle.pc_core.specs.CoreData.{CoreData}
-use Rattle.pc_names.specs.declared.fault.NameFault.{NameFault}
+use Rattle.pc_core.specs.{declared.nodes.Node.Node, CoreData.CoreData}
+use Rattle.pc_names.specs.{declared.fault.NameFault.NameFault, Faults.{entity_name_faults, declaration_faults, cycle_faults, count_faults, main_faults, NamesData, Collected, name_faults, IsNotMemory}, Parts.{where_, built_in_and_member_texts, above_faults}, Laws.fault_start}
 use Rattle.pc_names.specs.declared.fault.NameFault.TheVariants as fault
 use Rattle.pc_names.specs.declared.fault.Which.TheVariants as which
-use Rattle.pc_members.specs.Members.{built_in_names, entity_names, IsTransitiveClosure, Member, written, added}
-use Rattle.pc_names.specs.Faults.{entity_name_faults, declaration_faults, cycle_faults, count_faults, main_faults, NamesData, Collected, name_faults, IsNotMemory}
-use Rattle.pc_names.specs.Parts.{where_, built_in_and_member_texts, above_faults}
-use Rattle.pc_members.specs.Edges.{above_all, has_number, edges_of}
-use Rattle.pc_names.specs.Laws.{fault_start}
-use Rattle.pc_names.proofs.Ones.{first_is}
+use Rattle.pc_members.specs.{Members.{built_in_names, entity_names, IsTransitiveClosure, Member, written, added}, Edges.{above_all, has_number, edges_of}, MemberLists.member_span}
+use Rattle.pc_names.proofs.{Ones.first_is, OtherTexts.other_texts_differ}
 use Rattle.pc_members.proofs.Closings.{closes}
-use Rattle.pc_names.proofs.OtherTexts.{other_texts_differ}
-use Rattle.pc_caps.specs.Limits.{node_limit}
 use Rattle.pc_body_spec.specs.Faults.{BodyNameFault, unknown, double, long_text}
 use Rattle.pc_body_spec.specs.Places as body_places
-use Rattle.pc_members.specs.MemberLists.{member_span}
 use Rattle.pc_file_spec.specs.Cores.{Owned, context_of, Parts, body_fault, built_in_parts, and_members, parts_of, if_ok, core_of, core_with}
-use Rattle.pc_file_spec.proofs.Collects.{Collects, collects}
-use Rattle.pc_file_spec.proofs.Origins.{sort_of}
-use Rattle.pc_file_spec.proofs.Declared.{member_order}
-use Rattle.pc_file_spec.proofs.Owners.{owner_of}
-use Rattle.pc_file_spec.proofs.Steps.{member_faults, member_names}
-use Rattle.pc_file_spec.proofs.Parts.{all_at, first_good}
+use Rattle.pc_file_spec.proofs.{Collects.{Collects, collects}, Origins.sort_of, Declared.member_order, Owners.owner_of, Steps.{member_faults, member_names}, Parts.{all_at, first_good}}
 use Rattle.pc_core_relation.proofs.MemberFaults.{is_first, is_stop}
 use Rattle.pc_text_order.proofs.Bodies.{bodies_ascend}
 use Rattle.pc_elab.specs.Cores.{IsSpelledFile}
 use Rattle.pc_elab.proofs.Wholes.{in_order, in_place}
-use Rattle.pc_name_laws.specs.Missing.{IsBodyFault}
-use Rattle.pc_name_laws.specs.Declared.{IsEntityFault, IsDeclarationFault}
+use Rattle.pc_name_laws.specs.{Missing.IsBodyFault, Declared.{IsEntityFault, IsDeclarationFault}, Turns.{Turn, entity_names as all_names, declarations, cycles, method_counts, main, body, slots, nodes, pass, part, Earlier, IsFaultInTurn, all_members, slots_named, nodes_of, owned_size}, Laws.{IsTold, FaultIsTold}}
 use Rattle.pc_name_laws.specs.Declared as law
-use Rattle.pc_name_laws.specs.Turns.{Turn, entity_names as all_names, declarations, cycles, method_counts, main, body, slots, nodes, pass, part, Earlier, IsFaultInTurn, all_members, slots_named, nodes_of, owned_size}
-use Rattle.pc_name_laws.specs.Laws.{IsTold, FaultIsTold}
-use Rattle.pc_name_laws.proofs.Declarations.{entities_list}
-use Rattle.pc_name_laws.proofs.Counting.{file_counts, file_mains}
-use Rattle.pc_name_laws.proofs.Walks.{member_tells}
-use Rattle.pc_name_laws.proofs.Firsts.{Least, Heads, heads_either, heads_first, none_has, has_head}
-use Rattle.pc_name_laws.proofs.Sizes.{nodes_next, nodes_grow}
-use Rattle.pc_name_laws.proofs.Members.{Stop, stop, StopsAt, at_body, at_slot, at_nodes, stops_at, all_nodes, failed}
-use Rattle.pc_name_laws.proofs.Orderings.{member_least}
-use Rattle.pc_name_laws.proofs.Told.{Nothing, Told, Clear, clear_before, no_names, no_declared, no_cycles, no_counts, no_main, told_name, told_declaration, told_cycle, told_count, told_main, declared_by}
+use Rattle.pc_name_laws.proofs.{Declarations.entities_list, Counting.{file_counts, file_mains}, Walks.member_tells, Firsts.{Least, Heads, heads_either, heads_first, none_has, has_head}, Sizes.{nodes_next, nodes_grow}, Members.{Stop, stop, StopsAt, at_body, at_slot, at_nodes, stops_at, all_nodes, failed}, Orderings.member_least, Told.{Nothing, Told, Clear, clear_before, no_names, no_declared, no_cycles, no_counts, no_main, told_name, told_declaration, told_cycle, told_count, told_main, declared_by}}
 
 -- ---- the passes over names
 

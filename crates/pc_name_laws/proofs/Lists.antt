@@ -1,15 +1,10 @@
 -- A list has exactly the faults that a part describes.
-use Rattle.std.proofs.Common.{◌≡◌, ℕ, zero, suc, List, [], ◌∷◌, ◌++◌, map, length, take, Some, Bool, true, false, not, ◌||◌, refl, sym, ap, ◌∙◌, subst, inl, inr, ⊎_elim, append-nil, append_assoc}
+use Rattle.std.proofs.{Common.{◌≡◌, ℕ, zero, suc, List, [], ◌∷◌, ◌++◌, map, length, take, Some, Bool, true, false, not, ◌||◌, refl, sym, ap, ◌∙◌, subst, inl, inr, ⊎_elim, append-nil, append_assoc}, lemmas.Option.{same_Some, none-some}}
 use Rattle.std.specs.Prelude.{◌⊎◌, ◌↔◌, slice_get}
-use Rattle.std.proofs.lemmas.Option.{same_Some, none-some}
-use Rattle.pc_lists.specs.Lists.{Has, Text}
-use Rattle.pc_lists.proofs.Bools.{true_false}
-use Rattle.pc_lists.proofs.Elements.{has_front, has_behind, has_either}
-use Rattle.pc_lists.proofs.Gets.{get_take, take_get}
-use Rattle.pc_names.specs.declared.fault.NameFault.{NameFault}
+use Rattle.pc_base.specs.Lists.{Has, Text}
+use Rattle.pc_base.proofs.{Bools.true_false, Elements.{has_front, has_behind, has_either}, Gets.{get_take, take_get}}
+use Rattle.pc_names.specs.{declared.fault.NameFault.NameFault, Faults.either_fault, Parts.where_}
 use Rattle.pc_members.specs.MemberLists.{is_among}
-use Rattle.pc_names.specs.Faults.{either_fault}
-use Rattle.pc_names.specs.Parts.{where_}
 use Rattle.pc_members.proofs.Differences.{among_has, has_among}
 use Rattle.pc_name_laws.specs.Declared.{HasBefore}
 

@@ -1,18 +1,12 @@
 -- What the tables of a body give for a name is what it means.
-use Rattle.std.proofs.Common.{◌≡◌, ℕ, zero, suc, ◌+◌, ◌<◌, List, [], ◌∷◌, map, Option, Some, None, Bool, true, false, refl, sym, ap, ◌∙◌, subst, inl, inr, ⊎_elim, arith, if◌then◌else◌}
-use Rattle.std.specs.Prelude.{◌⊎◌, slice_get, nat_eq, nat_le}
-use Rattle.std.specs.Str.{bytes_eq}
-use Rattle.std.proofs.lemmas.Bool.{leb-true, le-leb, eqb-true}
-use Rattle.std.proofs.lemmas.Option.{same_Some, none-some}
-use Rattle.pc_lists.specs.Lists.{Has, Text}
-use Rattle.pc_lists.proofs.Bools.{true_false}
-use Rattle.pc_lists.proofs.Elements.{has_on}
-use Rattle.pc_tree.specs.declared.kinds.EntityKind.{EntityKind}
+use Rattle.std.proofs.{Common.{◌≡◌, ℕ, zero, suc, ◌+◌, ◌<◌, List, [], ◌∷◌, map, Option, Some, None, Bool, true, false, refl, sym, ap, ◌∙◌, subst, inl, inr, ⊎_elim, arith, if◌then◌else◌}, lemmas.Bool.{leb-true, le-leb, eqb-true}, lemmas.Option.{same_Some, none-some}}
+use Rattle.std.specs.{Prelude.{◌⊎◌, slice_get, nat_eq, nat_le}, Str.bytes_eq}
+use Rattle.pc_base.specs.Lists.{Has, Text}
+use Rattle.pc_base.proofs.{Bools.true_false, Elements.has_on}
+use Rattle.pc_tree.specs.{declared.kinds.EntityKind.EntityKind, Kinds.first_own}
 use Rattle.pc_tree.specs.declared.kinds.EntityKind.TheVariants as kind
-use Rattle.pc_tree.specs.Kinds.{first_own}
 use Rattle.pc_members.proofs.Differences.{same_text, equal_texts}
-use Rattle.pc_body_spec.specs.Bodies.{Context, KnownEntity, Constructor, Scope, Visible, is_among_names, slot_named, TypeMeaning, primitive, created, no_value, is_own, by_kind, type_from, type_meaning, constructor_named}
-use Rattle.pc_body_spec.specs.Faults.{is_entity}
+use Rattle.pc_body_spec.specs.{Bodies.{Context, KnownEntity, Constructor, Scope, Visible, is_among_names, slot_named, TypeMeaning, primitive, created, no_value, is_own, by_kind, type_from, type_meaning, constructor_named}, Faults.is_entity}
 use Rattle.pc_name_laws.specs.Missing.{IsFirstNamed, HasValue, IsPrimitive, IsCreated, HasConstructor}
 
 abbrev pub names : Scope → List Text

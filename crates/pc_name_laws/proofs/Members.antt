@@ -1,24 +1,17 @@
 -- The outcomes of the members of a file, one after the other, up to the first with a fault.
-use Rattle.std.proofs.Common.{◌≡◌, ℕ, suc, ◌+◌, ◌<◌, List, [], ◌∷◌, take, length, Option, Some, None, refl, sym, ap, ◌∙◌, subst, inl, inr, arith}
+use Rattle.std.proofs.{Common.{◌≡◌, ℕ, suc, ◌+◌, ◌<◌, List, [], ◌∷◌, take, length, Option, Some, None, refl, sym, ap, ◌∙◌, subst, inl, inr, arith}, lemmas.Option.same_Some}
 use Rattle.std.specs.Prelude.{slice_get, Result, Ok, Err}
-use Rattle.std.proofs.lemmas.Option.{same_Some}
-use Rattle.pc_caps.specs.declared.span.Span.{Span}
+use Rattle.pc_base.specs.{declared.span.Span.Span, Limits.node_limit}
 use Rattle.pc_tree.specs.declared.written_names.Name.{Name}
 use Rattle.pc_tree.specs.Tree as t
 use Rattle.pc_core.specs.declared.nodes.Node.{Node}
 use Rattle.pc_names.specs.declared.fault.NameFault.{NameFault}
 use Rattle.pc_names.specs.declared.fault.NameFault.TheVariants as fault
 use Rattle.pc_names.specs.declared.fault.Which.TheVariants as which
-use Rattle.pc_body_spec.specs.Bodies.{Rose, Context}
-use Rattle.pc_body_spec.specs.Fold.{Numbered, put}
-use Rattle.pc_caps.specs.Limits.{node_limit}
-use Rattle.pc_body_spec.specs.Faults.{BodyNameFault}
-use Rattle.pc_body_spec.specs.Methods.{MethodOutcome, unless_fault, unless_name, unless_full, numbered_or_full, put_body}
-use Rattle.pc_members.specs.Members.{Member, written, added}
-use Rattle.pc_members.specs.MemberLists.{member_span}
+use Rattle.pc_body_spec.specs.{Bodies.{Rose, Context}, Fold.{Numbered, put}, Faults.BodyNameFault, Methods.{MethodOutcome, unless_fault, unless_name, unless_full, numbered_or_full, put_body}}
+use Rattle.pc_members.specs.{Members.{Member, written, added}, MemberLists.member_span}
 use Rattle.pc_file_spec.specs.Cores.{Owned, context_of, Parts, body_fault, outcome, joined_parts, with_outcome, and_member, and_members, if_ok}
-use Rattle.pc_file_spec.proofs.Steps.{member_faults, member_names, member_rose, Made, Ends}
-use Rattle.pc_file_spec.proofs.Parts.{made_of}
+use Rattle.pc_file_spec.proofs.{Steps.{member_faults, member_names, member_rose, Made, Ends}, Parts.made_of}
 use Rattle.pc_name_laws.specs.Turns.{size_if, member_size, owned_size, nodes_of}
 use Rattle.pc_core_relation.specs.MemberFaults.{node_count}
 use Rattle.pc_core_relation.proofs.NodeCounts.{Counts, put_counts}

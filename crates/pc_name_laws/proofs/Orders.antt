@@ -1,10 +1,9 @@
 -- The names of the entities of a file that tokens spell are in the order of the tokens.
 use Rattle.std.proofs.Common.{List, [], ◌∷◌, map, ℕ}
-use Rattle.pc_lists.specs.Lists.{Ascends}
+use Rattle.pc_base.specs.Lists.{Ascends}
 use Rattle.pc_tree.specs.Tree as t
 use Rattle.pc_token.specs.declared.kinds.Token.{Token}
-use Rattle.pc_grammar.specs.Spells.{SpellsEntity, SpellsEntities, SpellsFile}
-use Rattle.pc_grammar.specs.Parts.{SpellsMoreEntities}
+use Rattle.pc_grammar.specs.{Spells.{SpellsEntity, SpellsEntities, SpellsFile}, Parts.SpellsMoreEntities}
 use Rattle.pc_text_order.specs.Laws.{starts}
 use Rattle.pc_text_order.proofs.Among.{Among, nothing, put, after, both, past, before, moved, among_ascends}
 

@@ -1,22 +1,15 @@
 -- The places of the declarations of a file are in the order of the text, one entity after the other.
-use Rattle.std.proofs.Common.{◌≡◌, ℕ, zero, suc, ◌+◌, ◌<◌, List, [], ◌∷◌, ◌++◌, map, length, Some, refl, sym, ap, ◌∙◌, subst, arith}
+use Rattle.std.proofs.{Common.{◌≡◌, ℕ, zero, suc, ◌+◌, ◌<◌, List, [], ◌∷◌, ◌++◌, map, length, Some, refl, sym, ap, ◌∙◌, subst, arith}, lemmas.Option.{same_Some, none-some}}
 use Rattle.std.specs.Prelude.{slice_get}
-use Rattle.std.proofs.lemmas.Option.{same_Some, none-some}
-use Rattle.pc_lists.specs.Lists.{Has, Ascends}
-use Rattle.pc_lists.proofs.Elements.{has_on, has_front, has_behind}
-use Rattle.pc_lists.proofs.Gets.{get_below, get_front, get_append, get_map}
+use Rattle.pc_base.specs.Lists.{Has, Ascends}
+use Rattle.pc_base.proofs.{Elements.{has_on, has_front, has_behind}, Gets.{get_below, get_front, get_append, get_map}}
 use Rattle.pc_tree.specs.Tree as t
-use Rattle.pc_tree.specs.declared.written_names.Name.{Name}
-use Rattle.pc_tree.specs.declared.written_names.TypeRef.{TypeRef}
-use Rattle.pc_tree.specs.declared.file.ParamDef.{ParamDef}
+use Rattle.pc_tree.specs.{declared.written_names.Name.Name, declared.written_names.TypeRef.TypeRef, declared.file.ParamDef.ParamDef}
 use Rattle.pc_token.specs.declared.kinds.Token.{Token}
-use Rattle.pc_grammar.specs.Spells.{SpellsEntities, SpellsFile}
-use Rattle.pc_grammar.specs.Parts.{SpellsMoreEntities}
-use Rattle.pc_names.specs.declared.fault.NameFault.{NameFault}
-use Rattle.pc_names.specs.Laws.{fault_start, name_start, result_places, field_places, param_places, method_places, declared_places}
+use Rattle.pc_grammar.specs.{Spells.{SpellsEntities, SpellsFile}, Parts.SpellsMoreEntities}
+use Rattle.pc_names.specs.{declared.fault.NameFault.NameFault, Laws.{fault_start, name_start, result_places, field_places, param_places, method_places, declared_places}}
 use Rattle.pc_text_order.specs.Laws.{starts}
-use Rattle.pc_text_order.proofs.Among.{Among, nothing, both, past, before, moved, among_ascends}
-use Rattle.pc_text_order.proofs.Declarations.{entity_in}
+use Rattle.pc_text_order.proofs.{Among.{Among, nothing, both, past, before, moved, among_ascends}, Declarations.entity_in}
 use Rattle.pc_name_laws.specs.Declared.{HasType, of_field, of_param, of_result, IsMissingName, IsTwice, IsDeclarationFault}
 use Rattle.pc_name_laws.specs.Declared as law
 

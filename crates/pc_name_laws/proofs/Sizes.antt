@@ -1,7 +1,6 @@
 -- How many nodes the members up to a place have.
-use Rattle.std.proofs.Common.{◌≡◌, ℕ, zero, suc, ◌+◌, ◌≤◌, List, [], ◌∷◌, take, Some, ap, arith}
+use Rattle.std.proofs.{Common.{◌≡◌, ℕ, zero, suc, ◌+◌, ◌≤◌, List, [], ◌∷◌, take, Some, ap, arith}, lemmas.Option.{same_Some, none-some}}
 use Rattle.std.specs.Prelude.{slice_get}
-use Rattle.std.proofs.lemmas.Option.{same_Some, none-some}
 use Rattle.pc_tree.specs.Tree as t
 use Rattle.pc_file_spec.specs.Cores.{Owned}
 use Rattle.pc_name_laws.specs.Turns.{owned_size, nodes_of}

@@ -1,22 +1,15 @@
 -- The faults of names and declarations are at the places of the tree, in their order.
 use Rattle.std.proofs.Common.{◌≡◌, ℕ, Bool, true, false, not, ◌||◌, ◌&&◌, List, [], ◌∷◌, ◌++◌, map, length, Option, Some, None, refl, subst}
 use Rattle.std.specs.Prelude.{nat_lt, codes}
-use Rattle.pc_caps.specs.Limits.{field_limit}
-use Rattle.pc_tree.specs.declared.file.ParamDef.{ParamDef}
-use Rattle.pc_tree.specs.declared.written_names.Name.{Name}
-use Rattle.pc_tree.specs.declared.written_names.TypeRef.{TypeRef}
+use Rattle.pc_base.specs.{Limits.field_limit, Lists.Text}
+use Rattle.pc_tree.specs.{declared.file.ParamDef.ParamDef, declared.written_names.Name.Name, declared.written_names.TypeRef.TypeRef}
 use Rattle.pc_tree.specs.Tree as t
-use Rattle.pc_names.specs.declared.fault.NameFault.{NameFault}
+use Rattle.pc_names.specs.{declared.fault.NameFault.NameFault, Faults.either_fault, Parts.where_, Laws.{fault_start, name_start, result_places, field_places, param_places, method_places, declared_places}}
 use Rattle.pc_names.specs.declared.fault.NameFault.TheVariants as fault
 use Rattle.pc_names.specs.declared.fault.Which.TheVariants as which
-use Rattle.pc_lists.specs.Lists.{Text}
-use Rattle.pc_members.specs.MemberLists.{is_among}
-use Rattle.pc_members.specs.Members.{has_added, field_texts}
+use Rattle.pc_members.specs.{MemberLists.is_among, Members.{has_added, field_texts}}
 use Rattle.pc_names.specs.Faults as spec
 use Rattle.pc_names.specs.Parts as parts
-use Rattle.pc_names.specs.Faults.{either_fault}
-use Rattle.pc_names.specs.Parts.{where_}
-use Rattle.pc_names.specs.Laws.{fault_start, name_start, result_places, field_places, param_places, method_places, declared_places}
 use Rattle.pc_body_spec.proofs.Places.{Sub, none, skip, take, sub_join}
 use Rattle.pc_name_laws.proofs.Orders.{entity_start}
 

@@ -1,15 +1,11 @@
 -- A list has the faults of the spots of a part of a body, in the order of its places.
-use Rattle.std.proofs.Common.{◌≡◌, ℕ, zero, suc, List, [], ◌∷◌, ◌++◌, Some, refl, sym, ap, subst, inl, inr, ⊎_elim}
+use Rattle.std.proofs.{Common.{◌≡◌, ℕ, zero, suc, List, [], ◌∷◌, ◌++◌, Some, refl, sym, ap, subst, inl, inr, ⊎_elim}, lemmas.Option.{same_Some, none-some}}
 use Rattle.std.specs.Prelude.{◌⊎◌, ◌↔◌}
-use Rattle.std.proofs.lemmas.Option.{same_Some, none-some}
-use Rattle.pc_lists.specs.Lists.{Has, Text}
-use Rattle.pc_lists.proofs.Elements.{has_front, has_behind, has_either}
-use Rattle.pc_body_spec.specs.Bodies.{Context}
-use Rattle.pc_body_spec.specs.Faults.{BodyNameFault, unknown}
-use Rattle.pc_body_spec.specs.Places.{fault_start}
+use Rattle.pc_base.specs.Lists.{Has, Text}
+use Rattle.pc_base.proofs.Elements.{has_front, has_behind, has_either}
+use Rattle.pc_body_spec.specs.{Bodies.Context, Faults.{BodyNameFault, unknown}, Places.fault_start}
 use Rattle.pc_body_spec.proofs.Places.{Sub, none, take, sub_join, nothing_at}
-use Rattle.pc_name_laws.specs.Uses.{NameUse, Spot, spot, Here}
-use Rattle.pc_name_laws.specs.Missing.{Means, place, IsTaken, IsLong, IsAtFault}
+use Rattle.pc_name_laws.specs.{Uses.{NameUse, Spot, spot, Here}, Missing.{Means, place, IsTaken, IsLong, IsAtFault}}
 
 abbrev pub FaultIn : Context → (Spot → Type 0) → BodyNameFault → Type 0
 FaultIn c P f = (x : Spot) × P x × IsAtFault c x f

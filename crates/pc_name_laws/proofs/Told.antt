@@ -1,33 +1,20 @@
 -- The fault that is reported is the least of all.
-use Rattle.std.proofs.Common.{◌≡◌, ℕ, zero, suc, ◌+◌, ◌<◌, ◌≤◌, List, [], ◌∷◌, map, drop, Some, refl, sym, ap, ◌∙◌, subst, inl, inr, ⊎_elim, arith}
+use Rattle.std.proofs.{Common.{◌≡◌, ℕ, zero, suc, ◌+◌, ◌<◌, ◌≤◌, List, [], ◌∷◌, map, drop, Some, refl, sym, ap, ◌∙◌, subst, inl, inr, ⊎_elim, arith}, lemmas.Option.{same_Some, none-some}, lemmas.Bool.cases_order}
 use Rattle.std.specs.Prelude.{◌⊎◌, slice_get}
-use Rattle.std.proofs.lemmas.Option.{same_Some, none-some}
-use Rattle.std.proofs.lemmas.Bool.{cases_order}
-use Rattle.pc_lists.specs.Lists.{Has, Ascends, Text}
-use Rattle.pc_lists.proofs.Elements.{has_front, has_behind}
-use Rattle.pc_lists.proofs.Gets.{get_map, map_get}
+use Rattle.pc_base.specs.Lists.{Has, Ascends, Text}
+use Rattle.pc_base.proofs.{Elements.{has_front, has_behind}, Gets.{get_map, map_get}}
 use Rattle.pc_tree.specs.Tree as t
-use Rattle.pc_names.specs.declared.fault.NameFault.{NameFault}
+use Rattle.pc_names.specs.{declared.fault.NameFault.NameFault, Faults.{entity_faults, entity_name_faults, declaration_faults, cycle_faults, count_faults, main_faults, IsNotMemory}, Parts.entities_faults, Laws.{fault_start, declared_places}}
 use Rattle.pc_names.specs.declared.fault.NameFault.TheVariants as fault
-use Rattle.pc_members.specs.Members.{built_in_names, entity_names, IsTransitiveClosure}
-use Rattle.pc_members.specs.MemberLists.{trait_names}
-use Rattle.pc_names.specs.Faults.{entity_faults, entity_name_faults, declaration_faults, cycle_faults, count_faults, main_faults, IsNotMemory}
-use Rattle.pc_names.specs.Parts.{entities_faults}
+use Rattle.pc_members.specs.{Members.{built_in_names, entity_names, IsTransitiveClosure}, MemberLists.trait_names}
 use Rattle.pc_members.specs.Members as chains
 use Rattle.pc_tree.specs.Kinds.{first_own}
-use Rattle.pc_names.specs.Laws.{fault_start, declared_places}
 use Rattle.pc_names.proofs.CycleFirsts.{cycle_is_first, no_cycle}
 use Rattle.pc_members.proofs.Closings.{no_entity}
 use Rattle.pc_text_order.proofs.Declarations.{declarations_ascend}
 use Rattle.pc_elab.specs.Cores.{IsSpelledFile}
-use Rattle.pc_name_laws.specs.Declared.{IsDeclarationFault}
-use Rattle.pc_name_laws.specs.Turns.{Turn, entity_names as all_names, declarations, cycles, method_counts, main, body, slots, nodes, pass, part, Earlier, IsFaultInTurn}
-use Rattle.pc_name_laws.proofs.Declarations.{entities_list, entity_lists}
-use Rattle.pc_name_laws.proofs.Orders.{entity_start, names_ascend}
-use Rattle.pc_name_laws.proofs.Places.{places_ascend, earlier_entity, fault_at}
-use Rattle.pc_name_laws.proofs.Starts.{names_at, entity_at}
-use Rattle.pc_name_laws.proofs.Firsts.{Least, Heads, heads_either, heads_first, has_head, none_has, least_of}
-use Rattle.pc_name_laws.proofs.Counting.{counts_at, file_counts, file_mains, one_main}
+use Rattle.pc_name_laws.specs.{Declared.IsDeclarationFault, Turns.{Turn, entity_names as all_names, declarations, cycles, method_counts, main, body, slots, nodes, pass, part, Earlier, IsFaultInTurn}}
+use Rattle.pc_name_laws.proofs.{Declarations.{entities_list, entity_lists}, Orders.{entity_start, names_ascend}, Places.{places_ascend, earlier_entity, fault_at}, Starts.{names_at, entity_at}, Firsts.{Least, Heads, heads_either, heads_first, has_head, none_has, least_of}, Counting.{counts_at, file_counts, file_mains, one_main}}
 
 abbrev pub Nothing : t.File → Turn → Type 0
 Nothing file u = (g : NameFault) → IsFaultInTurn file u g → ⊥

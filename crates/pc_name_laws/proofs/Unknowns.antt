@@ -1,26 +1,18 @@
 -- The laws of the fault that is reported, and of unknown names.
-use Rattle.std.proofs.Common.{◌≡◌, refl, sym, ap, ◌∙◌, subst, inl, inr, arith}
+use Rattle.std.proofs.{Common.{◌≡◌, refl, sym, ap, ◌∙◌, subst, inl, inr, arith}, lemmas.Option.{same_Some, none-some}}
 use Rattle.std.specs.Prelude.{Option, Some, None}
-use Rattle.std.proofs.lemmas.Option.{same_Some, none-some}
-use Rattle.pc_caps.specs.declared.span.Span.{Span}
+use Rattle.pc_base.specs.declared.span.Span.{Span}
 use Rattle.pc_tree.specs.declared.written_names.Name.{Name}
 use Rattle.pc_tree.specs.Tree as t
 use Rattle.pc_text_order.proofs.Tokens.{tokens_ascend}
-use Rattle.pc_names.specs.declared.fault.NameFault.{NameFault}
+use Rattle.pc_names.specs.{declared.fault.NameFault.NameFault, Laws.fault_start}
 use Rattle.pc_names.specs.declared.fault.NameFault.TheVariants as fault
-use Rattle.pc_names.specs.Laws.{fault_start}
-use Rattle.pc_body_spec.specs.Bodies.{Context}
-use Rattle.pc_body_spec.specs.Faults.{BodyNameFault, unknown, double, long_text}
+use Rattle.pc_body_spec.specs.{Bodies.Context, Faults.{BodyNameFault, unknown, double, long_text}}
 use Rattle.pc_file_spec.specs.Cores.{context_of, body_fault}
 use Rattle.pc_elab.specs.Cores.{IsSpelledFile}
-use Rattle.pc_name_laws.specs.Uses.{Spot}
-use Rattle.pc_name_laws.specs.Missing.{IsMissing, IsAtFault, place}
+use Rattle.pc_name_laws.specs.{Uses.Spot, Missing.{IsMissing, IsAtFault, place}, Declared.{IsEntityFault, IsMissingName, IsDeclarationFault}, Turns.{Turn, entity_names, declarations, cycles, method_counts, main, body, slots, nodes, IsFaultInTurn, IsBefore, NotBehind}, Laws.{ToldIsLeast, ToldOfTextIsLeast, IsMissingAt, UnknownIsMissing, MissingIsTold}}
 use Rattle.pc_name_laws.specs.Declared as law
-use Rattle.pc_name_laws.specs.Declared.{IsEntityFault, IsMissingName, IsDeclarationFault}
-use Rattle.pc_name_laws.specs.Turns.{Turn, entity_names, declarations, cycles, method_counts, main, body, slots, nodes, IsFaultInTurn, IsBefore, NotBehind}
-use Rattle.pc_name_laws.specs.Laws.{ToldIsLeast, ToldOfTextIsLeast, IsMissingAt, UnknownIsMissing, MissingIsTold}
-use Rattle.pc_name_laws.proofs.Told.{Told}
-use Rattle.pc_name_laws.proofs.Joined.{told, fault_is_told}
+use Rattle.pc_name_laws.proofs.{Told.Told, Joined.{told, fault_is_told}}
 
 -- ---- the least
 

@@ -1,21 +1,13 @@
 -- A use is at fault iff the definition of a body's faults says so.
-use Rattle.std.proofs.Common.{◌≡◌, ℕ, ◌<◌, List, [], ◌∷◌, length, Option, Some, None, Bool, true, false, refl, sym, ◌∙◌, subst, inl, inr, ⊎_elim, if◌then◌else◌, arith}
+use Rattle.std.proofs.{Common.{◌≡◌, ℕ, ◌<◌, List, [], ◌∷◌, length, Option, Some, None, Bool, true, false, refl, sym, ◌∙◌, subst, inl, inr, ⊎_elim, if◌then◌else◌, arith}, lemmas.Bool.ltb-true}
 use Rattle.std.specs.Prelude.{nat_lt}
-use Rattle.std.proofs.lemmas.Bool.{ltb-true}
-use Rattle.pc_lists.specs.Lists.{Has, Text}
-use Rattle.pc_lists.proofs.Bools.{false_true}
-use Rattle.pc_caps.specs.declared.span.Span.{Span}
-use Rattle.pc_tree.specs.declared.written_names.Name.{Name}
-use Rattle.pc_tree.specs.declared.written_names.TypeRef.{TypeRef}
-use Rattle.pc_body_spec.specs.Bodies.{Context, Scope, KnownEntity, Meaning, local, field, method, nothing, member, unless_local, slot_named, resolve, is_among_names, TypeMeaning, primitive, created, no_value, type_meaning, constructor_named, Start, with_method, with_type, with_value, start_with_name, create_name}
-use Rattle.pc_body_spec.specs.Faults.{BodyNameFault, unknown, double, long_text, is_name_taken, is_entity, bare_name_faults, type_name_faults, Next, arguments, name, end, start_faults, dot_faults}
-use Rattle.pc_body_spec.specs.Parts.{fault_if, unless_some, written_faults}
-use Rattle.pc_body_spec.specs.Places.{written_places}
+use Rattle.pc_base.specs.{Lists.{Has, Text}, declared.span.Span.Span}
+use Rattle.pc_base.proofs.Bools.{false_true}
+use Rattle.pc_tree.specs.{declared.written_names.Name.Name, declared.written_names.TypeRef.TypeRef}
+use Rattle.pc_body_spec.specs.{Bodies.{Context, Scope, KnownEntity, Meaning, local, field, method, nothing, member, unless_local, slot_named, resolve, is_among_names, TypeMeaning, primitive, created, no_value, type_meaning, constructor_named, Start, with_method, with_type, with_value, start_with_name, create_name}, Faults.{BodyNameFault, unknown, double, long_text, is_name_taken, is_entity, bare_name_faults, type_name_faults, Next, arguments, name, end, start_faults, dot_faults}, Parts.{fault_if, unless_some, written_faults}, Places.written_places}
 use Rattle.pc_name_laws.specs.Uses as u
-use Rattle.pc_name_laws.specs.Uses.{Here, BehindDot, TypeIn, spot}
-use Rattle.pc_name_laws.specs.Missing.{IsCreated, IsPrimitive, HasConstructor, Means, IsAtFault}
-use Rattle.pc_name_laws.proofs.Telling.{Tells, no_spot, no_fault_here, fault_here, meant, missing}
-use Rattle.pc_name_laws.proofs.Meanings.{names, Answers, is_some, among, slots_answer, Says, says, Constructs, constructs, Knows, knows}
+use Rattle.pc_name_laws.specs.{Uses.{Here, BehindDot, TypeIn, spot}, Missing.{IsCreated, IsPrimitive, HasConstructor, Means, IsAtFault}}
+use Rattle.pc_name_laws.proofs.{Telling.{Tells, no_spot, no_fault_here, fault_here, meant, missing}, Meanings.{names, Answers, is_some, among, slots_answer, Says, says, Constructs, constructs, Knows, knows}}
 
 -- ---- what follows is different
 

@@ -1,26 +1,17 @@
 -- The faults of a body are those of its uses.
-use Rattle.std.proofs.Common.{◌≡◌, ℕ, zero, suc, List, [], ◌∷◌, ◌++◌, Option, Some, None, refl, sym, ap, subst, inl, inr, ⊎_elim}
+use Rattle.std.proofs.{Common.{◌≡◌, ℕ, zero, suc, List, [], ◌∷◌, ◌++◌, Option, Some, None, refl, sym, ap, subst, inl, inr, ⊎_elim}, lemmas.List.map-append, lemmas.Option.{same_Some, none-some}}
 use Rattle.std.specs.Prelude.{◌⊎◌}
-use Rattle.std.proofs.lemmas.List.{map-append}
-use Rattle.std.proofs.lemmas.Option.{same_Some, none-some}
-use Rattle.pc_lists.specs.Lists.{Has}
-use Rattle.pc_lists.proofs.Elements.{has_on}
-use Rattle.pc_tree.specs.declared.written_names.Name.{Name}
-use Rattle.pc_tree.specs.declared.file.ParamDef.{ParamDef}
-use Rattle.pc_tree.specs.declared.kinds.MethodWord.{MethodWord}
+use Rattle.pc_base.specs.Lists.{Has}
+use Rattle.pc_base.proofs.Elements.{has_on}
+use Rattle.pc_tree.specs.{declared.written_names.Name.Name, declared.file.ParamDef.ParamDef, declared.kinds.MethodWord.MethodWord}
 use Rattle.pc_tree.specs.declared.kinds.MethodWord.TheVariants as word
 use Rattle.pc_tree.specs.Tree as t
-use Rattle.pc_body_spec.specs.Bodies.{Context, Scope, Visible, defined_local, resolve, primitive, created, no_value, scope_after, params_from, params_scope, initial_fields, Start, with_method, with_type, with_value, chain_start}
-use Rattle.pc_body_spec.specs.Faults.{BodyNameFault, double, is_name_taken, Next, end, next_of, start_faults, faults_of, exprs_faults, suffixes_faults, arms_faults, arm_faults, other_faults, seq_faults, items_faults, item_faults, initial_faults}
-use Rattle.pc_body_spec.specs.Parts.{fault_if, written_faults, value_faults, written_body_faults}
-use Rattle.pc_body_spec.specs.Places.{written_places, places, exprs_places, suffixes_places, arm_places, arms_places, other_places, seq_places, items_places, item_places, value_places, initial_places, written_body_places, body_places}
+use Rattle.pc_body_spec.specs.{Bodies.{Context, Scope, Visible, defined_local, resolve, primitive, created, no_value, scope_after, params_from, params_scope, initial_fields, Start, with_method, with_type, with_value, chain_start}, Faults.{BodyNameFault, double, is_name_taken, Next, end, next_of, start_faults, faults_of, exprs_faults, suffixes_faults, arms_faults, arm_faults, other_faults, seq_faults, items_faults, item_faults, initial_faults}, Parts.{fault_if, written_faults, value_faults, written_body_faults}, Places.{written_places, places, exprs_places, suffixes_places, arm_places, arms_places, other_places, seq_places, items_places, item_places, value_places, initial_places, written_body_places, body_places}}
 use Rattle.pc_members.specs.Members.{Member, written, added}
 use Rattle.pc_file_spec.proofs.Steps.{member_faults}
 use Rattle.pc_name_laws.specs.Uses as u
 use Rattle.pc_name_laws.specs.Uses.{Spot, Here, TypeIn, type_name_of, visible_after, In, InExprs, InSuffixes, InArm, InArms, InOther, InSeq, InItems, InItem, InValue, InInitials, InBody, InMember, param_texts}
-use Rattle.pc_name_laws.proofs.Telling.{Tells, no_spot, either, turned}
-use Rattle.pc_name_laws.proofs.Meanings.{names}
-use Rattle.pc_name_laws.proofs.Uses.{bare_tells, consumed_tells, type_tells, Begins, dot_tells, name_begins, local_tells, written_tells, literal_tells}
+use Rattle.pc_name_laws.proofs.{Telling.{Tells, no_spot, either, turned}, Meanings.names, Uses.{bare_tells, consumed_tells, type_tells, Begins, dot_tells, name_begins, local_tells, written_tells, literal_tells}}
 
 begins : (c : Context) (sc : Scope) (h : t.Expr) → Begins c (chain_start c sc h) (type_name_of h)
 begins c sc (t.number n s) = refl

@@ -1,18 +1,17 @@
 -- Which fault of a file is reported.
 use Rattle.std.specs.Prelude.{◌≡◌, ◌⊎◌, ◌↔◌, ℕ, List, slice_get, Some}
-use Rattle.pc_lists.specs.Lists.{Has, Ascends}
-use Rattle.pc_caps.specs.declared.span.Span.{Span}
+use Rattle.pc_base.specs.{Lists.{Has, Ascends}, declared.span.Span.Span}
 use Rattle.pc_tree.specs.declared.written_names.Name.{Name}
 use Rattle.pc_token.specs.declared.kinds.Token.{Token}
 use Rattle.pc_lex.specs.Pieces.{Tokens}
 use Rattle.pc_grammar.specs.Spells.{SpellsFile}
 use Rattle.pc_text_order.specs.Laws.{starts}
-use Rattle.pc_names.specs.{declared.fault.NameFault.NameFault, Faults.entity_name_faults, Faults.entity_faults, Faults.count_faults, Faults.main_faults, Faults.IsNameFault, Faults.IsNotMemory}
-use Rattle.pc_members.specs.{Members.built_in_names, Members.entity_names as entity_names_of, Members.written, Members.added, MemberLists.trait_names}
-use Rattle.pc_body_spec.specs.{Bodies.Context, Faults.BodyNameFault, Faults.body_faults, Faults.initial_faults}
+use Rattle.pc_names.specs.{declared.fault.NameFault.NameFault, Faults.{entity_name_faults, entity_faults, count_faults, main_faults, IsNameFault, IsNotMemory}}
+use Rattle.pc_members.specs.{Members.{built_in_names, entity_names as entity_names_of, written, added}, MemberLists.trait_names}
+use Rattle.pc_body_spec.specs.{Bodies.Context, Faults.{BodyNameFault, body_faults, initial_faults}}
 use Rattle.pc_file_spec.specs.Cores.{Owned, context_of}
 use Rattle.pc_core_relation.specs.MemberFaults.{IsMemberFault}
-use Rattle.pc_name_laws.specs.{Uses.Spot, Uses.InMember, Missing.IsMissing, Missing.IsBodyFault, Missing.place, Declared.IsEntityFault, Declared.IsDeclarationFault, Declared.IsMissingName, Turns.Turn, Turns.entity_names, Turns.declarations, Turns.cycles, Turns.method_counts, Turns.main, Turns.body, Turns.slots, Turns.nodes, Turns.IsCountFault, Turns.IsMainFault, Turns.IsFaultInTurn, Turns.IsBefore, Turns.NotBehind, Turns.all_members}
+use Rattle.pc_name_laws.specs.{Uses.{Spot, InMember}, Missing.{IsMissing, IsBodyFault, place}, Declared.{IsEntityFault, IsDeclarationFault, IsMissingName}, Turns.{Turn, entity_names, declarations, cycles, method_counts, main, body, slots, nodes, IsCountFault, IsMainFault, IsFaultInTurn, IsBefore, NotBehind, all_members}}
 use Rattle.pc_tree.specs.Tree as t
 use Rattle.pc_names.specs.declared.fault.NameFault.TheVariants as fault
 

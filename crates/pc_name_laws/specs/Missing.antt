@@ -1,9 +1,8 @@
 -- Which uses in a body are at fault: names without a meaning, locals whose name is taken, and texts that are too long.
 use Rattle.std.specs.Prelude.{◌≡◌, ◌⊎◌, ℕ, ◌<◌, ◌≤◌, List, length, Some, slice_get, codes}
-use Rattle.pc_lists.specs.Lists.{Has, Text}
-use Rattle.pc_caps.specs.{declared.span.Span.Span, Limits.text_limit}
+use Rattle.pc_base.specs.{Lists.{Has, Text}, declared.span.Span.Span, Limits.text_limit}
 use Rattle.pc_tree.specs.Kinds.{none_entity, first_own}
-use Rattle.pc_body_spec.specs.{Bodies.Context, Bodies.KnownEntity, Bodies.Constructor, Faults.BodyNameFault, Faults.unknown, Faults.double, Faults.long_text, Faults.arguments, Faults.name}
+use Rattle.pc_body_spec.specs.{Bodies.{Context, KnownEntity, Constructor}, Faults.{BodyNameFault, unknown, double, long_text, arguments, name}}
 use Rattle.pc_members.specs.Members.{Member}
 use Rattle.pc_name_laws.specs.Uses.{NameUse, bare, consumed, type_value, member_of, local, local_type, literal, Spot, InMember}
 use Rattle.pc_tree.specs.declared.kinds.EntityKind.TheVariants as kind

@@ -1,15 +1,14 @@
 -- The turn in which each fault of a file is looked for. There are five passes over its names, and then its members have
 -- their turns: the body of a member, its slots, and its nodes.
 use Rattle.std.specs.Prelude.{◌≡◌, ◌⊎◌, ℕ, suc, ◌+◌, ◌*◌, ◌<◌, ◌≤◌, false, List, [], ◌∷◌, take, Option, Some, None, slice_get, codes, ◌-◌}
-use Rattle.pc_caps.specs.Limits.{method_limit, node_limit, slot_limit}
-use Rattle.pc_lists.specs.Lists.{Has}
+use Rattle.pc_base.specs.{Limits.{method_limit, node_limit, slot_limit}, Lists.Has}
 use Rattle.pc_tree.specs.{declared.written_names.Name.Name, Kinds.first_own}
 use Rattle.pc_names.specs.{declared.fault.NameFault.NameFault, Parts.method_count, Mains.is_main, Laws.fault_start}
-use Rattle.pc_members.specs.{Members.texts_of, Members.InCycle, Members.entity_at, Members.Member, Members.written, Members.added, MemberLists.member_span}
-use Rattle.pc_body_spec.specs.{Bodies.Rose, Bodies.body_of, Bodies.added_body, Bodies.Context, Slots.initial_locals, Methods.slot_names, Methods.local_names, Faults.BodyNameFault}
+use Rattle.pc_members.specs.{Members.{texts_of, InCycle, entity_at, Member, written, added}, MemberLists.member_span}
+use Rattle.pc_body_spec.specs.{Bodies.{Rose, body_of, added_body, Context}, Slots.initial_locals, Methods.{slot_names, local_names}, Faults.BodyNameFault}
 use Rattle.pc_file_spec.specs.Cores.{Owned, members_from, context_of, body_fault}
 use Rattle.pc_core_relation.specs.MemberFaults.{node_count}
-use Rattle.pc_name_laws.specs.{Missing.IsBodyFault, Declared.HasBefore, Declared.IsEntityFault, Declared.IsDeclarationFault}
+use Rattle.pc_name_laws.specs.{Missing.IsBodyFault, Declared.{HasBefore, IsEntityFault, IsDeclarationFault}}
 use Rattle.pc_tree.specs.Tree as t
 use Rattle.pc_names.specs.declared.fault.NameFault.TheVariants as fault
 use Rattle.pc_names.specs.declared.fault.Which.TheVariants as which

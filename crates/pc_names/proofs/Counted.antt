@@ -1,15 +1,12 @@
 -- The number of a file's methods is that of its members.
-use Rattle.std.proofs.Common.{◌≡◌, ℕ, ◌+◌, List, [], ◌∷◌, ◌++◌, map, length, refl, ap, ◌∙◌}
+use Rattle.std.proofs.{Common.{◌≡◌, ℕ, ◌+◌, List, [], ◌∷◌, ◌++◌, map, length, refl, ap, ◌∙◌}, lemmas.List.length-map}
 use Rattle.std.specs.Prelude.{nat_lt}
-use Rattle.std.proofs.lemmas.List.{length-map}
-use Rattle.pc_tree.specs.View.{entity_view}
-use Rattle.pc_tree.specs.declared.file.Entity.{Entity}
+use Rattle.pc_tree.specs.{View.entity_view, declared.file.Entity.Entity}
 use Rattle.pc_tree.specs.Tree as t
 use Rattle.pc_names.specs.declared.fault.NameFault.TheVariants as fault
 use Rattle.pc_names.specs.declared.fault.Which.TheVariants as which
-use Rattle.pc_names.specs.Faults.{count_faults}
-use Rattle.pc_names.specs.Parts.{where_, method_count, faults_by_count}
-use Rattle.pc_caps.specs.Limits.{method_limit}
+use Rattle.pc_names.specs.{Faults.count_faults, Parts.{where_, method_count, faults_by_count}}
+use Rattle.pc_base.specs.Limits.{method_limit}
 
 by_count : (all : List t.Entity) (n : ℕ) (es : List t.Entity) → faults_by_count n es (map (method_count all) es) ≡ count_faults all n es
 by_count all n [] = refl

@@ -1,23 +1,14 @@
 -- The fault of a cycle is at the first trait from which a chain of `is` leads back to it.
-use Rattle.std.proofs.Common.{◌≡◌, ℕ, zero, suc, ◌+◌, ◌<◌, Bool, true, false, ◌&&◌, List, [], ◌∷◌, ◌++◌, map, drop, Some, refl, sym, ap, ◌∙◌, subst, arith}
+use Rattle.std.proofs.{Common.{◌≡◌, ℕ, zero, suc, ◌+◌, ◌<◌, Bool, true, false, ◌&&◌, List, [], ◌∷◌, ◌++◌, map, drop, Some, refl, sym, ap, ◌∙◌, subst, arith}, lemmas.Option.{same_Some, none-some, slice_get_within}, lemmas.Bool.and_parts}
 use Rattle.std.specs.Prelude.{slice_get}
-use Rattle.std.proofs.lemmas.Option.{same_Some, none-some, slice_get_within}
-use Rattle.pc_lists.proofs.Gets.{get_drop, get_within}
+use Rattle.pc_base.proofs.{Gets.{get_drop, get_within}, Bools.no_both}
 use Rattle.pc_tree.specs.Tree as t
-use Rattle.pc_names.specs.declared.fault.NameFault.{NameFault}
+use Rattle.pc_names.specs.{declared.fault.NameFault.NameFault, Faults.cycle_faults, Parts.where_, Laws.{CycleIsFirst, NoCycle}}
 use Rattle.pc_names.specs.declared.fault.NameFault.TheVariants as fault
 use Rattle.pc_tree.specs.Kinds.{is_abstract, first_own}
-use Rattle.pc_names.specs.Faults.{cycle_faults}
-use Rattle.pc_names.specs.Parts.{where_}
-use Rattle.pc_members.specs.Edges.{has_number}
-use Rattle.pc_members.specs.Members.{IsTransitiveClosure, InCycle, LeadsInFile, entity_at}
-use Rattle.pc_names.specs.Laws.{CycleIsFirst, NoCycle}
-use Rattle.pc_members.proofs.Reaches.{has_in, in_get, get_in}
-use Rattle.pc_members.proofs.Reached.{in_has}
-use Rattle.pc_members.proofs.Closings.{no_entity}
+use Rattle.pc_members.specs.{Edges.has_number, Members.{IsTransitiveClosure, InCycle, LeadsInFile, entity_at}}
+use Rattle.pc_members.proofs.{Reaches.{has_in, in_get, get_in}, Reached.in_has, Closings.no_entity}
 use Rattle.pc_names.proofs.Ones.{first_is}
-use Rattle.std.proofs.lemmas.Bool.{and_parts}
-use Rattle.pc_lists.proofs.Bools.{no_both}
 
 -- Entity number a is a trait that is above itself.
 abbrev pub bad : ℕ → t.Entity → List ℕ → Bool

@@ -1,24 +1,15 @@
 -- The members can be listed for a file whose names and declarations have no fault, and which has no cycle.
-use Rattle.std.proofs.Common.{◌≡◌, ℕ, zero, suc, ◌+◌, ◌<◌, ◌≤◌, List, [], ◌∷◌, ◌++◌, length, Bool, true, false, not, refl, sym, subst, arith, append-nil}
+use Rattle.std.proofs.{Common.{◌≡◌, ℕ, zero, suc, ◌+◌, ◌<◌, ◌≤◌, List, [], ◌∷◌, ◌++◌, length, Bool, true, false, not, refl, sym, subst, arith, append-nil}, lemmas.Bool.{ltb-true, not-false}, lemmas.Option.{same_Some, none-some}, lemmas.List.{length_push, append_assoc}}
 use Rattle.std.specs.Prelude.{nat_lt, drop}
-use Rattle.std.proofs.lemmas.Bool.{ltb-true, not-false}
-use Rattle.std.proofs.lemmas.Option.{same_Some, none-some}
-use Rattle.std.proofs.lemmas.List.{length_push, append_assoc}
-use Rattle.pc_tree.specs.declared.written_names.Name.{Name}
+use Rattle.pc_tree.specs.{declared.written_names.Name.Name, Kinds.first_own}
 use Rattle.pc_tree.specs.Tree as t
-use Rattle.pc_lists.specs.Lists.{Has, Differ, Text}
-use Rattle.pc_lists.proofs.Elements.{differ_none}
-use Rattle.pc_lists.proofs.Cuts.{nil_left, nil_right}
-use Rattle.pc_names.specs.declared.fault.NameFault.{NameFault}
+use Rattle.pc_base.specs.Lists.{Has, Differ, Text}
+use Rattle.pc_base.proofs.{Elements.differ_none, Cuts.{nil_left, nil_right}}
+use Rattle.pc_names.specs.{declared.fault.NameFault.NameFault, Faults.{either_fault, provided_faults, added_faults, entity_faults, entity_name_faults, declaration_faults, cycle_faults, NamesData, Collected}, Parts.{where_, entities_faults, known_limit}}
 use Rattle.pc_names.specs.declared.fault.NameFault.TheVariants as fault
 use Rattle.pc_names.specs.declared.fault.Which.TheVariants as which
-use Rattle.pc_members.specs.MemberLists.{is_among, trait_names}
-use Rattle.pc_members.specs.Members.{built_in_names, texts_of, entity_names, IsTransitiveClosure}
-use Rattle.pc_members.specs.Founded.{IsFounded}
-use Rattle.pc_tree.specs.Kinds.{first_own}
+use Rattle.pc_members.specs.{MemberLists.{is_among, trait_names}, Members.{built_in_names, texts_of, entity_names, IsTransitiveClosure}, Founded.IsFounded}
 use Rattle.pc_members.proofs.Differences.{differ_push, among_has}
-use Rattle.pc_names.specs.Faults.{either_fault, provided_faults, added_faults, entity_faults, entity_name_faults, declaration_faults, cycle_faults, NamesData, Collected}
-use Rattle.pc_names.specs.Parts.{where_, entities_faults, known_limit}
 use Rattle.pc_names.proofs.CycleFirsts.{no_cycle}
 
 -- ---- no faults

@@ -1,23 +1,15 @@
 -- The faults of an entity are in the order of its places.
-use Rattle.std.proofs.Common.{◌≡◌, ℕ, zero, suc, ◌≤◌, ◌<◌, Bool, true, false, not, ◌||◌, List, [], ◌∷◌, ◌++◌, map, length, Option, Some, None, refl, sym, ap, ◌∙◌, subst, arith}
+use Rattle.std.proofs.{Common.{◌≡◌, ℕ, zero, suc, ◌≤◌, ◌<◌, Bool, true, false, not, ◌||◌, List, [], ◌∷◌, ◌++◌, map, length, Option, Some, None, refl, sym, ap, ◌∙◌, subst, arith}, lemmas.Option.{same_Some, none-some}}
 use Rattle.std.specs.Prelude.{slice_get, nat_lt, codes, ◌&&◌}
-use Rattle.std.proofs.lemmas.Option.{same_Some, none-some}
-use Rattle.pc_caps.specs.Limits.{field_limit}
-use Rattle.pc_lists.specs.Lists.{Has, Ascends, Text}
-use Rattle.pc_tree.specs.declared.file.ParamDef.{ParamDef}
-use Rattle.pc_tree.specs.declared.written_names.Name.{Name}
-use Rattle.pc_tree.specs.declared.written_names.TypeRef.{TypeRef}
+use Rattle.pc_base.specs.{Limits.field_limit, Lists.{Has, Ascends, Text}}
+use Rattle.pc_tree.specs.{declared.file.ParamDef.ParamDef, declared.written_names.Name.Name, declared.written_names.TypeRef.TypeRef}
 use Rattle.pc_tree.specs.Tree as t
-use Rattle.pc_names.specs.declared.fault.NameFault.{NameFault}
+use Rattle.pc_names.specs.{declared.fault.NameFault.NameFault, Faults.either_fault, Parts.where_, Laws.{FirstIsLeast, fault_start, name_start, result_places, field_places, param_places, method_places, declared_places}}
 use Rattle.pc_names.specs.declared.fault.NameFault.TheVariants as fault
 use Rattle.pc_names.specs.declared.fault.Which.TheVariants as which
-use Rattle.pc_members.specs.MemberLists.{is_among}
-use Rattle.pc_members.specs.Members.{has_added, field_texts}
+use Rattle.pc_members.specs.{MemberLists.is_among, Members.{has_added, field_texts}}
 use Rattle.pc_names.specs.Faults as spec
 use Rattle.pc_names.specs.Parts as parts
-use Rattle.pc_names.specs.Faults.{either_fault}
-use Rattle.pc_names.specs.Parts.{where_}
-use Rattle.pc_names.specs.Laws.{FirstIsLeast, fault_start, name_start, result_places, field_places, param_places, method_places, declared_places}
 use Rattle.pc_names.proofs.Ones.{ascends_tail, first_is}
 
 -- The faults are at some of the places, in their order, at most one at a place.

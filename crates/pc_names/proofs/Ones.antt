@@ -1,14 +1,11 @@
 -- A file determines its names, and the first fault of them.
-use Rattle.std.proofs.Common.{◌≡◌, ℕ, zero, suc, ◌≤◌, ◌<◌, List, [], ◌∷◌, length, Some, refl, sym, ap, ◌∙◌, arith, inl, inr, ⊎_elim, ◌⊎◌}
+use Rattle.std.proofs.{Common.{◌≡◌, ℕ, zero, suc, ◌≤◌, ◌<◌, List, [], ◌∷◌, length, Some, refl, sym, ap, ◌∙◌, arith, inl, inr, ⊎_elim, ◌⊎◌}, lemmas.Option.{same_Some, none-some}}
 use Rattle.std.specs.Prelude.{slice_get}
-use Rattle.std.proofs.lemmas.Option.{same_Some, none-some}
-use Rattle.pc_lists.specs.Lists.{Each, Has, Ascends}
+use Rattle.pc_base.specs.Lists.{Each, Has, Ascends}
 use Rattle.pc_tree.specs.Tree as t
-use Rattle.pc_names.specs.declared.fault.NameFault.{NameFault}
+use Rattle.pc_names.specs.{declared.fault.NameFault.NameFault, Faults.{IsFirstNameFault, name_faults, IsNotMemory}, Laws.{OneClosing, OneFault, NotBoth}}
 use Rattle.pc_names.specs.declared.fault.NameFault.TheVariants as fault
-use Rattle.pc_names.specs.Faults.{IsFirstNameFault, name_faults, IsNotMemory}
 use Rattle.pc_members.specs.Members.{IsAbove}
-use Rattle.pc_names.specs.Laws.{OneClosing, OneFault, NotBoth}
 
 -- ---- ascending lists
 

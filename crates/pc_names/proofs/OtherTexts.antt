@@ -1,13 +1,11 @@
 -- The other texts of a file differ.
 use Rattle.std.proofs.Common.{List, [], ◌∷◌, ◌++◌}
-use Rattle.pc_lists.specs.Lists.{Differ, Text}
+use Rattle.pc_base.specs.Lists.{Differ, Text}
 use Rattle.pc_tree.specs.Tree as t
-use Rattle.pc_members.specs.Members.{field_texts, method_texts}
-use Rattle.pc_members.specs.MemberLists.{with_names}
-use Rattle.pc_names.specs.Faults.{with_members, built_in_texts}
-use Rattle.pc_names.specs.Parts.{built_in_and_member_texts}
+use Rattle.pc_members.specs.{Members.{field_texts, method_texts}, MemberLists.with_names}
+use Rattle.pc_names.specs.{Faults.{with_members, built_in_texts}, Parts.built_in_and_member_texts}
 use Rattle.pc_members.proofs.Differences.{names_differ}
-use Rattle.pc_lists.proofs.Elements.{differ_none}
+use Rattle.pc_base.proofs.Elements.{differ_none}
 
 pub members_differ : (es : List t.Entity) (names : List Text) → Differ names → Differ (with_members names es)
 members_differ [] names d = d

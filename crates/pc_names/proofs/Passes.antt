@@ -1,20 +1,13 @@
 -- The passes over a file's names, combined.
-use Rattle.std.proofs.Common.{◌≡◌, ℕ, ◌+◌, ◌-◌, ◌<◌, ◌≤◌, ◌^◌, List, [], ◌++◌, length, map, drop, sym, ap, ◌∙◌, subst, arith}
-use Rattle.std.proofs.lemmas.List.{length-map, length-drop}
-use Rattle.pc_tree.specs.declared.file.File.{File}
-use Rattle.pc_tree.specs.View.{entity_view, file_view}
+use Rattle.std.proofs.{Common.{◌≡◌, ℕ, ◌+◌, ◌-◌, ◌<◌, ◌≤◌, ◌^◌, List, [], ◌++◌, length, map, drop, sym, ap, ◌∙◌, subst, arith}, lemmas.List.{length-map, length-drop}}
+use Rattle.pc_tree.specs.{declared.file.File.File, View.{entity_view, file_view}, Kinds.first_own}
 use Rattle.pc_tree.specs.Tree as t
-use Rattle.pc_names.specs.declared.fault.NameFault.{NameFault}
+use Rattle.pc_names.specs.{declared.fault.NameFault.NameFault, Faults.{IsFirstNameFault, entity_name_faults, declaration_faults, NamesData, name_faults, Collected, IsNameFault}, Parts.{built_in_and_member_texts, above_faults}}
 use Rattle.pc_names.specs.declared.fault.NameFault.TheVariants as fault
-use Rattle.pc_members.specs.Members.{built_in_names, entity_names, IsTransitiveClosure}
-use Rattle.pc_names.specs.Faults.{IsFirstNameFault, entity_name_faults, declaration_faults, NamesData, name_faults, Collected, IsNameFault}
-use Rattle.pc_names.specs.Parts.{built_in_and_member_texts, above_faults}
-use Rattle.pc_members.specs.Edges.{above_all, edges_of}
-use Rattle.pc_tree.specs.Kinds.{first_own}
-use Rattle.pc_lists.specs.Lists.{Differ}
-use Rattle.pc_names.proofs.Firsts.{is_first_on}
+use Rattle.pc_members.specs.{Members.{built_in_names, entity_names, IsTransitiveClosure}, Edges.{above_all, edges_of}}
+use Rattle.pc_base.specs.Lists.{Differ}
+use Rattle.pc_names.proofs.{Firsts.is_first_on, OtherTexts.other_texts_differ}
 use Rattle.pc_members.proofs.Closings.{closes, edges_length}
-use Rattle.pc_names.proofs.OtherTexts.{other_texts_differ}
 
 -- The first fault of a list after an empty one.
 is_first_behind : (f : NameFault) (xs ys : List NameFault) → xs ≡ [] → IsFirstNameFault f ys → IsFirstNameFault f (xs ++ ys)

@@ -1,21 +1,12 @@
 -- Loops over declarations that stop at a fault.
-use Rattle.std.proofs.Common.{◌≡◌, ℕ, suc, ◌<◌, false, not, ◌||◌, List, [], ◌∷◌, ◌++◌, map, length, drop, get_or, sym, ap, subst, ◌∙◌}
+use Rattle.std.proofs.{Common.{◌≡◌, ℕ, suc, ◌<◌, false, not, ◌||◌, List, [], ◌∷◌, ◌++◌, map, length, drop, get_or, sym, ap, subst, ◌∙◌}, Math.Seq.drop-cons}
 use Rattle.std.specs.Prelude.{nat_lt}
-use Rattle.std.proofs.Math.Seq.{drop-cons}
-use Rattle.pc_tree.specs.View.{entity_view, field_view, method_view}
-use Rattle.pc_tree.specs.declared.file.Entity.{Entity}
-use Rattle.pc_tree.specs.declared.file.FieldDef.{FieldDef}
-use Rattle.pc_tree.specs.declared.file.MethodDef.{MethodDef}
-use Rattle.pc_tree.specs.declared.file.ParamDef.{ParamDef}
-use Rattle.pc_tree.specs.declared.written_names.Name.{Name}
-use Rattle.pc_names.specs.declared.fault.NameFault.{NameFault}
+use Rattle.pc_tree.specs.{View.{entity_view, field_view, method_view}, declared.file.Entity.Entity, declared.file.FieldDef.FieldDef, declared.file.MethodDef.MethodDef, declared.file.ParamDef.ParamDef, declared.written_names.Name.Name}
+use Rattle.pc_names.specs.{declared.fault.NameFault.NameFault, Faults.{IsFirstNameFault, either_fault, type_faults, field_faults, param_faults, signature_faults, method_faults, entity_faults}, Parts.{where_, entities_faults}}
 use Rattle.pc_names.specs.declared.fault.NameFault.TheVariants as fault
 use Rattle.pc_names.specs.declared.fault.Which.TheVariants as which
-use Rattle.pc_lists.specs.Lists.{Text}
+use Rattle.pc_base.specs.{Lists.Text, Limits.field_limit}
 use Rattle.pc_members.specs.MemberLists.{is_among}
-use Rattle.pc_names.specs.Faults.{IsFirstNameFault, either_fault, type_faults, field_faults, param_faults, signature_faults, method_faults, entity_faults}
-use Rattle.pc_names.specs.Parts.{where_, entities_faults}
-use Rattle.pc_caps.specs.Limits.{field_limit}
 use Rattle.pc_names.proofs.Firsts.{is_first_on}
 
 -- A list from a place on.

@@ -3,7 +3,7 @@ ghost use Rattle.std.specs.Prelude.{◌≡◌, length, slice_get};
 ghost use Rattle.std.specs.Option.{option_copied};
 ghost use Rattle.pc_members.specs.Parts.{find_name};
 
-use pc_caps::List;
+use pc_base::List;
 use pc_members::NameTable;
 use std::marker::Model;
 

@@ -16,7 +16,7 @@ use crate::entities::{table_entities, table_traits};
 use crate::fault::NameFault;
 use crate::mains::check_main;
 use crate::texts::table_texts;
-use pc_caps::List;
+use pc_base::List;
 use pc_member_counts::count_members;
 use pc_members::{NameTable, close, list_edges, own_part};
 use pc_tree::{FIRST_OWN, File};

@@ -6,7 +6,7 @@ ghost use Rattle.pc_names.specs.Parts as parts;
 ghost use Rattle.pc_names.specs.Parts.{TellsFirst};
 
 use crate::fault::{NameFault, Which};
-use pc_caps::METHOD_LIMIT;
+use pc_base::METHOD_LIMIT;
 use pc_tree::Entity;
 
 // These entities, with these numbers of members, do not have more members than a file may have.

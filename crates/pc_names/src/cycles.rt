@@ -7,7 +7,7 @@ ghost use Rattle.pc_names.specs.Parts.{TellsFirst};
 ghost use Rattle.pc_members.specs.Edges as reach;
 
 use crate::fault::NameFault;
-use pc_caps::List;
+use pc_base::List;
 use pc_tree::Entity;
 
 // Whether the number is in the list.

@@ -1,6 +1,6 @@
 //! The faults of an entity's declarations.
 ghost use Rattle.std.specs.Prelude.{◌≡◌, ◌||◌, ◌++◌, [], not, length, map, nat_lt, OnOk};
-ghost use Rattle.pc_caps.specs.Limits.{field_limit};
+ghost use Rattle.pc_base.specs.Limits.{field_limit};
 ghost use Rattle.pc_tree.specs.View.{entity_view, field_view, method_view};
 ghost use Rattle.pc_names.specs.Faults as spec;
 ghost use Rattle.pc_names.specs.Parts as parts;
@@ -10,7 +10,7 @@ ghost use Rattle.pc_members.specs.MemberLists.{is_among};
 ghost use Rattle.pc_members.specs.Members.{field_texts, method_texts};
 
 use crate::fault::{NameFault, Which};
-use pc_caps::FIELD_LIMIT;
+use pc_base::FIELD_LIMIT;
 use pc_members::{NameTable, has_added};
 use pc_tree::{Entity, FieldDef, MethodDef, Name, ParamDef, TypeRef};
 use std::alloc::Global;

@@ -7,7 +7,7 @@ ghost use Rattle.pc_members.specs.MemberLists.{trait_names, with_traits};
 ghost use Rattle.pc_members.specs.Members.{built_in_names, entity_names, texts_of};
 
 use crate::fault::{NameFault, Which};
-use pc_caps::ENTITY_LIMIT;
+use pc_base::ENTITY_LIMIT;
 use pc_keyed::keyed_by_names;
 use pc_members::NameTable;
 use pc_tree::{Entity, FIRST_OWN, File};

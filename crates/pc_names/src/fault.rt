@@ -2,7 +2,7 @@
 
 ghost use Rattle.std.specs.Prelude.{◌≡◌};
 
-use pc_caps::Span;
+use pc_base::Span;
 use std::alloc::AllocError;
 
 /// What a file has too many of.

@@ -1,51 +1,20 @@
 -- At a call the receiver's value is of the type that is noted at the receiver's node.
 use Rattle.std.specs.Prelude.{◌≡◌, ℕ, List, [], ◌∷◌, Option, Some, slice_get}
-use Rattle.std.proofs.Common.{inl, inr, ap, sym, subst, ◌∙◌}
-use Rattle.std.proofs.lemmas.Option.{same_Some, none-some}
-use Rattle.pc_heap.specs.Objects.{ObjectMap}
-use Rattle.pc_heap.specs.declared.value.Value.{Value}
-use Rattle.pc_heap.specs.declared.value.Value.TheVariants.{Num, Truth, Text, Prim, At}
-use Rattle.pc_core.specs.declared.declarations.EntityDef.{EntityDef}
-use Rattle.pc_core.specs.declared.nodes.Node.{Node}
-use Rattle.pc_core.specs.declared.nodes.NodeKind.{NodeKind}
+use Rattle.std.proofs.{Common.{inl, inr, ap, sym, subst, ◌∙◌}, lemmas.Option.{same_Some, none-some}}
+use Rattle.pc_heap.specs.{Objects.ObjectMap, declared.value.Value.Value, declared.value.Value.TheVariants.{Num, Truth, Text, Prim, At}}
+use Rattle.pc_core.specs.{declared.declarations.EntityDef.EntityDef, declared.nodes.Node.Node, declared.nodes.NodeKind.NodeKind, CoreData.CoreData, Nodes.NamesPrimitive}
 use Rattle.pc_core.specs.declared.nodes.NodeKind.TheVariants as nodes
-use Rattle.pc_core.specs.CoreData.{CoreData}
-use Rattle.pc_lists.proofs.Options.{bind_some, bind_is}
-use Rattle.pc_core.specs.Nodes.{NamesPrimitive}
-use Rattle.pc_lists.proofs.Gets.{get_map}
+use Rattle.pc_base.proofs.{Options.{bind_some, bind_is}, Gets.get_map}
 use Rattle.pc_masks.specs.declared.mask.Mask.{Mask}
-use Rattle.pc_ann.specs.declared.annotation.Note.{Note}
-use Rattle.pc_ann.specs.declared.annotation.Ann.{Ann}
-use Rattle.pc_semantics.specs.declared.actors.Actor.{Actor}
-use Rattle.pc_semantics.specs.declared.frames.Frame.{Frame}
-use Rattle.pc_semantics.specs.declared.frames.Task.{Task}
+use Rattle.pc_ann.specs.{declared.annotation.Note.Note, declared.annotation.Ann.Ann}
+use Rattle.pc_semantics.specs.{declared.actors.Actor.Actor, declared.frames.Frame.Frame, declared.frames.Task.Task, Configurations.{Configuration, start, value_entity}, Step.after}
 use Rattle.pc_semantics.specs.declared.frames.Task.TheVariants as task
-use Rattle.pc_semantics.specs.Configurations.{Configuration, start, value_entity}
-use Rattle.pc_semantics.specs.Step.{after}
 use Rattle.pc_rules.specs.Parts.{type_of, last_child}
 use Rattle.pc_valid.specs.Words.{Ty}
-use Rattle.pc_rules.proofs.ByNumber.{arguments}
-use Rattle.pc_rules.proofs.Derivations.{to_valid}
-use Rattle.pc_types.proofs.Types.{OfKind, OfType, OfSome, Want, StackOk}
-use Rattle.pc_types.proofs.Tasks.{want_of, stacked, FinishOk, invokes, TasksOk}
-use Rattle.pc_types.proofs.Frames.{FrameOk, FramesOk}
-use Rattle.pc_types.proofs.Typed.{ActorOk, WellTyped}
-use Rattle.pc_types.proofs.Needs.{Needs}
-use Rattle.pc_types.proofs.Needed.{needed}
-use Rattle.pc_types.proofs.Notes.{meets}
-use Rattle.pc_types.proofs.Values.{top_is, own_no_trait}
-use Rattle.pc_types.proofs.InverseCalls.{CalledRule, TextRule, call_of}
-use Rattle.pc_types.proofs.Popped.{receiver_last, stacked_last}
-use Rattle.pc_types.proofs.InvokeTask.{invokes_is}
-use Rattle.pc_types.proofs.Steps.{run_ok}
-use Rattle.pc_types.proofs.AllTasks.{keeps}
-use Rattle.pc_types.proofs.Takes.{takes}
-use Rattle.pc_types.proofs.Starts.{start_typed}
-use Rattle.pc_sends.specs.Held.{invoked, receiver_child, call_held as next_call, IsNoted, HeldAt}
-use Rattle.pc_sends.specs.Tables.{noted_at}
-use Rattle.pc_noted_receivers.specs.Noted.{noted_entities}
-use Rattle.pc_noted_receivers.specs.Parts.{noted_in, noted_entity}
-use Rattle.pc_noted_receivers.specs.Laws.{AcceptedHeld}
+use Rattle.pc_rules.proofs.{ByNumber.arguments, Derivations.to_valid}
+use Rattle.pc_types.proofs.{Types.{OfKind, OfType, OfSome, Want, StackOk}, Tasks.{want_of, stacked, FinishOk, invokes, TasksOk}, Frames.{FrameOk, FramesOk}, Typed.{ActorOk, WellTyped}, Needs.Needs, Needed.needed, Notes.meets, Values.{top_is, own_no_trait}, InverseCalls.{CalledRule, TextRule, call_of}, Popped.{receiver_last, stacked_last}, InvokeTask.invokes_is, Steps.run_ok, AllTasks.keeps, Takes.takes, Starts.start_typed}
+use Rattle.pc_sends.specs.{Held.{invoked, receiver_child, call_held as next_call, IsNoted, HeldAt}, Tables.noted_at}
+use Rattle.pc_noted_receivers.specs.{Noted.noted_entities, Parts.{noted_in, noted_entity}, Laws.AcceptedHeld}
 
 -- ---- entities
 

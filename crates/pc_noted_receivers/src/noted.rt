@@ -7,7 +7,7 @@ ghost use Rattle.pc_noted_receivers.specs.Parts as parts;
 
 use crate::laws::accepted_held;
 use pc_ann::{Ann, Note};
-use pc_caps::List;
+use pc_base::List;
 use pc_core::Core;
 use std::alloc::{AllocError, Global};
 

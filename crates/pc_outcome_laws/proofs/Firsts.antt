@@ -1,16 +1,7 @@
 -- The entries of plays are those of the plays that are the first with their outcome.
-use Rattle.std.proofs.Common.{◌≡◌, ◌⊎◌, ◌<◌, ◌≤◌, ◌+◌, ℕ, Bool, true, false, cond, List, [], ◌∷◌, ◌++◌, length, take, take_at, append_assoc, append-nil, length-append, Option, Some, inl, inr, refl, sym, ap, ap₂, ◌∙◌, subst, arith}
-use Rattle.std.specs.Prelude.{◌&&◌, ◌||◌, IsSomeAnd, slice_get}
-use Rattle.std.specs.List.{AllByRecursion, count_by, list_any}
-use Rattle.std.specs.Str.{bytes_eq}
-use Rattle.std.proofs.lemmas.Bool.{cases_lt, false≢true}
-use Rattle.std.proofs.lemmas.Option.{slice_get_within}
-use Rattle.std.proofs.lemmas.Slice.Eq.{bytes_eq-Decides}
-use Rattle.pc_outcomes.specs.declared.entry.Ending.{Ending}
-use Rattle.pc_outcomes.specs.declared.entry.Entry.{Entry}
-use Rattle.pc_outcomes.specs.declared.entry.Play.{Play}
-use Rattle.pc_outcomes.specs.Plays.{has_outcome, same_ending}
-use Rattle.pc_outcomes.specs.Tables.{AreEntries, Ascend, IsEntry, IsFirstPlay, shows_outcome}
+use Rattle.std.proofs.{Common.{◌≡◌, ◌⊎◌, ◌<◌, ◌≤◌, ◌+◌, ℕ, Bool, true, false, cond, List, [], ◌∷◌, ◌++◌, length, take, take_at, append_assoc, append-nil, length-append, Option, Some, inl, inr, refl, sym, ap, ap₂, ◌∙◌, subst, arith}, lemmas.Bool.{cases_lt, false≢true}, lemmas.Option.slice_get_within, lemmas.Slice.Eq.bytes_eq-Decides}
+use Rattle.std.specs.{Prelude.{◌&&◌, ◌||◌, IsSomeAnd, slice_get}, List.{AllByRecursion, count_by, list_any}, Str.bytes_eq}
+use Rattle.pc_outcomes.specs.{declared.entry.Ending.Ending, declared.entry.Entry.Entry, declared.entry.Play.Play, Plays.{has_outcome, same_ending}, Tables.{AreEntries, Ascend, IsEntry, IsFirstPlay, shows_outcome}}
 use Rattle.pc_outcomes.proofs.Grouping.{ending_self, outcome_is}
 use Rattle.pc_outcome_laws.proofs.Lists.{all_at, any_take, none_counted, some_at, there}
 

@@ -1,16 +1,9 @@
 -- A limit that the plays of some seeds pass is passed by those of more seeds too.
-use Rattle.std.proofs.Common.{◌≡◌, ◌≤◌, ◌+◌, ℕ, Bool, true, false, cond, List, [], ◌∷◌, ◌++◌, length, append_assoc, append-nil, refl, sym, ap, ◌∙◌, arith}
+use Rattle.std.proofs.{Common.{◌≡◌, ◌≤◌, ◌+◌, ℕ, Bool, true, false, cond, List, [], ◌∷◌, ◌++◌, length, append_assoc, append-nil, refl, sym, ap, ◌∙◌, arith}, lemmas.Bool.false≢true, lemmas.List.Sums.{sum_by-append, sum_by-cons}}
 use Rattle.std.specs.List.{AllByRecursion, list_any}
-use Rattle.std.proofs.lemmas.Bool.{false≢true}
-use Rattle.std.proofs.lemmas.List.Sums.{sum_by-append, sum_by-cons}
-use Rattle.pc_outcomes.specs.declared.entry.Ending.{Ending}
-use Rattle.pc_outcomes.specs.declared.entry.Entry.{Entry}
-use Rattle.pc_outcomes.specs.declared.entry.Play.{Play}
-use Rattle.pc_outcomes.specs.Plays.{has_outcome}
-use Rattle.pc_outcomes.specs.Tables.{AreEntries, shows_outcome, total_steps, total_texts}
+use Rattle.pc_outcomes.specs.{declared.entry.Ending.Ending, declared.entry.Entry.Entry, declared.entry.Play.Play, Plays.has_outcome, Tables.{AreEntries, shows_outcome, total_steps, total_texts}}
 use Rattle.pc_outcomes.proofs.Grouping.{outcome_is}
-use Rattle.pc_outcome_laws.proofs.Firsts.{entry_at, firsts, one_table}
-use Rattle.pc_outcome_laws.proofs.Lists.{found}
+use Rattle.pc_outcome_laws.proofs.{Firsts.{entry_at, firsts, one_table}, Lists.found}
 
 -- ---- steps
 

@@ -1,10 +1,6 @@
 -- Lists and the places in them.
-use Rattle.std.proofs.Common.{◌≡◌, ◌<◌, ◌≤◌, ◌+◌, ℕ, zero, suc, Bool, true, false, cond, List, [], ◌∷◌, ◌++◌, length, take, Option, Some, None, refl, sym, ap, ap₂, ◌∙◌, subst, arith}
-use Rattle.std.specs.Prelude.{◌||◌, IfSome, IsSomeAnd, slice_get}
-use Rattle.std.specs.List.{AllByRecursion, count_by, list_any}
-use Rattle.std.proofs.lemmas.Bool.{false≢true, or_right}
-use Rattle.std.proofs.lemmas.List.Sums.{sum_by-cons}
-use Rattle.std.proofs.lemmas.Option.{none-some, same_Some}
+use Rattle.std.proofs.{Common.{◌≡◌, ◌<◌, ◌≤◌, ◌+◌, ℕ, zero, suc, Bool, true, false, cond, List, [], ◌∷◌, ◌++◌, length, take, Option, Some, None, refl, sym, ap, ap₂, ◌∙◌, subst, arith}, lemmas.Bool.{false≢true, or_right}, lemmas.List.Sums.sum_by-cons, lemmas.Option.{none-some, same_Some}}
+use Rattle.std.specs.{Prelude.{◌||◌, IfSome, IsSomeAnd, slice_get}, List.{AllByRecursion, count_by, list_any}}
 
 -- ---- an element at a place
 

@@ -1,19 +1,11 @@
 -- There is only one answer.
-use Rattle.std.proofs.Common.{◌≡◌, ◌⊎◌, ◌<◌, ◌≤◌, ℕ, List, [], ◌∷◌, ◌++◌, length, length-append, append-nil, Ok, Err, inl, inr, refl, sym, ap, ◌∙◌, subst, arith}
+use Rattle.std.proofs.{Common.{◌≡◌, ◌⊎◌, ◌<◌, ◌≤◌, ℕ, List, [], ◌∷◌, ◌++◌, length, length-append, append-nil, Ok, Err, inl, inr, refl, sym, ap, ◌∙◌, subst, arith}, lemmas.Bool.cases_lt}
 use Rattle.std.specs.Prelude.{slice_get}
-use Rattle.std.proofs.lemmas.Bool.{cases_lt}
 use Rattle.pc_core.specs.CoreData.{CoreData}
 use Rattle.pc_choose.specs.Laws.{ListsAreOne}
-use Rattle.pc_outcomes.specs.declared.entry.Entry.{Entry}
-use Rattle.pc_outcomes.specs.declared.entry.Play.{Play}
-use Rattle.pc_outcomes.specs.declared.fault.OutcomesFault.TheVariants.{Memory, Steps, Texts}
-use Rattle.pc_outcomes.specs.Plays.{ArePlays, IsPlayOfSeed}
-use Rattle.pc_outcomes.specs.Tables.{AreEntries, StepsPass, TextsPass, IsOutcomesTable, total_steps}
+use Rattle.pc_outcomes.specs.{declared.entry.Entry.Entry, declared.entry.Play.Play, declared.fault.OutcomesFault.TheVariants.{Memory, Steps, Texts}, Plays.{ArePlays, IsPlayOfSeed}, Tables.{AreEntries, StepsPass, TextsPass, IsOutcomesTable, total_steps}}
 use Rattle.pc_outcome_laws.specs.Laws.{AnswersAreOne}
-use Rattle.pc_outcome_laws.proofs.Firsts.{firsts, one_table}
-use Rattle.pc_outcome_laws.proofs.Limits.{steps_grow, texts_grow}
-use Rattle.pc_outcome_laws.proofs.Lists.{of_some, some_at}
-use Rattle.pc_outcome_laws.proofs.OnePlay.{front_plays, one_play}
+use Rattle.pc_outcome_laws.proofs.{Firsts.{firsts, one_table}, Limits.{steps_grow, texts_grow}, Lists.{of_some, some_at}, OnePlay.{front_plays, one_play}}
 
 module _ (one : ListsAreOne) (core : CoreData) where
   -- ---- the plays of more seeds

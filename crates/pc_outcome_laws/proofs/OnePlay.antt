@@ -1,14 +1,9 @@
 -- A seed has only one play.
 use Rattle.std.proofs.Common.{◌≡◌, ◌≤◌, ℕ, List, ◌++◌, length, sym, ap, ◌∙◌, arith}
 use Rattle.pc_core.specs.CoreData.{CoreData}
-use Rattle.pc_semantics.specs.Step.{after, outcomes}
-use Rattle.pc_semantics.specs.Text.{lines, end_of}
-use Rattle.pc_choose.specs.Able.{able_actors}
-use Rattle.pc_choose.specs.Laws.{ListsAreOne}
-use Rattle.pc_choose.specs.Lists.{Chosen}
-use Rattle.pc_outcomes.specs.declared.entry.Ending.{Ending}
-use Rattle.pc_outcomes.specs.declared.entry.Play.{Play}
-use Rattle.pc_outcomes.specs.Plays.{ArePlays, IsPlayOfSeed, ending_after}
+use Rattle.pc_semantics.specs.{Step.{after, outcomes}, Text.{lines, end_of}}
+use Rattle.pc_choose.specs.{Able.able_actors, Laws.ListsAreOne, Lists.Chosen}
+use Rattle.pc_outcomes.specs.{declared.entry.Ending.Ending, declared.entry.Play.Play, Plays.{ArePlays, IsPlayOfSeed, ending_after}}
 use Rattle.pc_outcome_laws.proofs.Lists.{front}
 
 pub same_play : (text other : List ℕ) (ending also : Ending) (steps more : ℕ) → text ≡ other → ending ≡ also → steps ≡ more

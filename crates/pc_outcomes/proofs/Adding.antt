@@ -1,23 +1,10 @@
 -- A play is added to a table in the making.
-use Rattle.std.proofs.Common.{◌≡◌, ◌^◌, ℕ, zero, suc, ◌+◌, ◌<◌, ◌≤◌, Bool, true, false, cond, not, nat_lt, List, [], ◌∷◌, ◌++◌, length, get_or, Option, Some, None, Err, refl, sym, ap, ◌∙◌, subst, arith}
-use Rattle.std.specs.Prelude.{◌||◌, IfSome, slice_get, slice_set, position}
-use Rattle.std.specs.List.{list_any, position_or_len, AllByRecursion}
-use Rattle.std.proofs.lemmas.Bool.{ltb-false}
-use Rattle.std.proofs.lemmas.List.Folds.{list_any_at}
-use Rattle.std.proofs.lemmas.List.Quantifiers.{position-Some}
-use Rattle.std.proofs.lemmas.List.Sums.{count_by-le-length}
-use Rattle.std.proofs.lemmas.Option.{get_or_from_slice_get, slice_get-get_or}
+use Rattle.std.proofs.{Common.{◌≡◌, ◌^◌, ℕ, zero, suc, ◌+◌, ◌<◌, ◌≤◌, Bool, true, false, cond, not, nat_lt, List, [], ◌∷◌, ◌++◌, length, get_or, Option, Some, None, Err, refl, sym, ap, ◌∙◌, subst, arith}, lemmas.Bool.ltb-false, lemmas.List.Folds.list_any_at, lemmas.List.Quantifiers.position-Some, lemmas.List.Sums.count_by-le-length, lemmas.Option.{get_or_from_slice_get, slice_get-get_or}}
+use Rattle.std.specs.{Prelude.{◌||◌, IfSome, slice_get, slice_set, position}, List.{list_any, position_or_len, AllByRecursion}}
 use Rattle.pc_core.specs.CoreData.{CoreData}
-use Rattle.pc_outcomes.specs.declared.entry.Entry.{Entry}
-use Rattle.pc_outcomes.specs.declared.entry.Play.{Play}
-use Rattle.pc_outcomes.specs.declared.table.Totals.{Totals}
-use Rattle.pc_outcomes.specs.Plays.{IsPlayOfSeed}
-use Rattle.pc_outcomes.specs.Tables.{AnswersTable, shows_outcome, IsEntry, StepsPass, TextsPass, steps_limit, texts_limit, total_steps}
-use Rattle.pc_outcomes.specs.declared.fault.OutcomesFault.{OutcomesFault}
+use Rattle.pc_outcomes.specs.{declared.entry.Entry.Entry, declared.entry.Play.Play, declared.table.Totals.Totals, Plays.IsPlayOfSeed, Tables.{AnswersTable, shows_outcome, IsEntry, StepsPass, TextsPass, steps_limit, texts_limit, total_steps}, declared.fault.OutcomesFault.OutcomesFault, Under.{Under, AddsTo, one_more, entry_of}}
 use Rattle.pc_outcomes.specs.declared.fault.OutcomesFault.TheVariants as fault
-use Rattle.pc_outcomes.specs.Under.{Under, AddsTo, one_more, entry_of}
-use Rattle.pc_outcomes.proofs.Grouping.{counted, set_counted, texts_counted, texts_new}
-use Rattle.pc_outcomes.proofs.Growing.{none_yet, steps_push, with_new, with_shown}
+use Rattle.pc_outcomes.proofs.{Grouping.{counted, set_counted, texts_counted, texts_new}, Growing.{none_yet, steps_push, with_new, with_shown}}
 
 -- ---- lists
 

@@ -1,17 +1,12 @@
 -- The play of a seed, from how far its run came.
 use Rattle.std.proofs.Common.{◌≡◌, ℕ, List, [], length, ap, ◌∙◌}
 use Rattle.pc_core.specs.CoreData.{CoreData}
-use Rattle.pc_semantics.specs.Configurations.{Configuration}
-use Rattle.pc_semantics.specs.Step.{after, outcomes}
-use Rattle.pc_semantics.specs.Text.{lines, end_of}
-use Rattle.pc_run.specs.declared.counts.Progress.{Progress}
-use Rattle.pc_run.specs.declared.counts.Progress.TheVariants.{Going, TooLong}
-use Rattle.pc_run.specs.Underway.{ReachedSoFar}
+use Rattle.pc_semantics.specs.{Configurations.Configuration, Step.{after, outcomes}, Text.{lines, end_of}}
+use Rattle.pc_run.specs.{declared.counts.Progress.Progress, declared.counts.Progress.TheVariants.{Going, TooLong}, Underway.ReachedSoFar}
 use Rattle.pc_run.proofs.Stepping.{behind_all}
 use Rattle.pc_choose.specs.Able.{able_actors}
 use Rattle.pc_play.specs.Plays.{IsThrough}
-use Rattle.pc_outcomes.specs.declared.entry.Ending.{Ending}
-use Rattle.pc_outcomes.specs.Plays.{IsPlayOfSeed, ending_after}
+use Rattle.pc_outcomes.specs.{declared.entry.Ending.Ending, Plays.{IsPlayOfSeed, ending_after}}
 
 after_all : (core : CoreData) (list : List ℕ) (c : Configuration) (progress : Progress) → ReachedSoFar core list c [] progress → c ≡ after core list
 after_all core list c (Going k) u = behind_all core list c k [] u

@@ -1,28 +1,11 @@
 -- Outcomes with their seeds, found by a test of the outcome.
-use Rattle.std.proofs.Common.{◌≡◌, ℕ, zero, suc, ◌+◌, ◌<◌, ◌^◌, Bool, true, false, cond, not, nat_lt, List, [], ◌∷◌, ◌++◌, length, map, position, Option, Some, None, refl, sym, ap, subst, ◌∙◌}
-use Rattle.std.proofs.lemmas.Bool.{false≢true}
-use Rattle.std.proofs.lemmas.List.{map_push}
-use Rattle.std.proofs.lemmas.Option.{none-some, same_Some}
-use Rattle.std.specs.List.{list_any, position_or_len}
-use Rattle.std.specs.Map.{keys_of, lookup, values_of}
-use Rattle.std.specs.Prelude.{IfSome, slice_get, slice_set, ◌&&◌, ◌||◌}
-use Rattle.std.specs.Str.{bytes_eq}
-use Rattle.std.proofs.lemmas.Slice.Eq.{bytes_eq-Decides}
-use Rattle.indexmap.specs.IndexMap.{IndexMap, insert_entry}
-use Rattle.indexmap.specs.Layout.{set_value_at}
+use Rattle.std.proofs.{Common.{◌≡◌, ℕ, zero, suc, ◌+◌, ◌<◌, ◌^◌, Bool, true, false, cond, not, nat_lt, List, [], ◌∷◌, ◌++◌, length, map, position, Option, Some, None, refl, sym, ap, subst, ◌∙◌}, lemmas.Bool.false≢true, lemmas.List.map_push, lemmas.Option.{none-some, same_Some}, lemmas.Slice.Eq.bytes_eq-Decides}
+use Rattle.std.specs.{List.{list_any, position_or_len}, Map.{keys_of, lookup, values_of}, Prelude.{IfSome, slice_get, slice_set, ◌&&◌, ◌||◌}, Str.bytes_eq}
+use Rattle.indexmap.specs.{IndexMap.{IndexMap, insert_entry}, Layout.set_value_at}
 use Rattle.indexmap.proofs.CallerLemmas.{insert_entry-new}
 use Rattle.pc_outcomes.specs.contracts.entry.EndingPartialEq.TheImpl as ending_eq
 use Rattle.pc_outcomes.specs.contracts.entry.OutcomePartialEq.TheImpl as outcome_eq
-use Rattle.pc_outcomes.specs.declared.entry.Ending.{Ending}
-use Rattle.pc_outcomes.specs.declared.entry.Ending.TheVariants.{Done, Cut, TooLong}
-use Rattle.pc_outcomes.specs.declared.entry.Entry.{Entry}
-use Rattle.pc_outcomes.specs.declared.entry.Outcome.{Outcome}
-use Rattle.pc_outcomes.specs.declared.entry.Play.{Play}
-use Rattle.pc_outcomes.specs.declared.entry.Seeds.{Seeds}
-use Rattle.pc_outcomes.specs.Shown.{play_with, shown}
-use Rattle.pc_outcomes.specs.Plays.{same_ending}
-use Rattle.pc_outcomes.specs.Tables.{shows_outcome}
-use Rattle.pc_outcomes.specs.Under.{one_more}
+use Rattle.pc_outcomes.specs.{declared.entry.Ending.Ending, declared.entry.Ending.TheVariants.{Done, Cut, TooLong}, declared.entry.Entry.Entry, declared.entry.Outcome.Outcome, declared.entry.Play.Play, declared.entry.Seeds.Seeds, Shown.{play_with, shown}, Plays.same_ending, Tables.shows_outcome, Under.one_more}
 use Rattle.pc_outcomes.proofs.Adding.{not_found}
 
 -- ---- what it is for two outcomes to be equal

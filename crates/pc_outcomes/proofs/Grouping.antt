@@ -1,20 +1,7 @@
 -- A play is added to the entries of others.
-use Rattle.std.proofs.Common.{◌≡◌, ℕ, zero, suc, ◌+◌, ◌<◌, ◌≤◌, Bool, true, false, cond, List, [], ◌∷◌, ◌++◌, length, take, get_or, Option, Some, None, refl, sym, ap, ◌∙◌, arith}
-use Rattle.std.specs.Prelude.{◌&&◌, ◌||◌, IsSomeAnd, slice_get, slice_set}
-use Rattle.std.specs.List.{AllByRecursion, count_by, list_any}
-use Rattle.std.specs.Str.{bytes_eq}
-use Rattle.std.proofs.lemmas.Bool.{and_parts, false≢true, or_right}
-use Rattle.std.proofs.lemmas.List.{take-append-le, take_at}
-use Rattle.std.proofs.lemmas.List.Folds.{list_any-append}
-use Rattle.std.proofs.lemmas.List.Sums.{sum_by_push, sum_by-cons}
-use Rattle.std.proofs.lemmas.Slice.Eq.{bytes_eq-Decides}
-use Rattle.pc_outcomes.specs.declared.entry.Ending.{Ending}
-use Rattle.pc_outcomes.specs.declared.entry.Ending.TheVariants.{Done, Cut, TooLong}
-use Rattle.pc_outcomes.specs.declared.entry.Entry.{Entry}
-use Rattle.pc_outcomes.specs.declared.entry.Play.{Play}
-use Rattle.pc_outcomes.specs.Plays.{has_outcome, same_ending}
-use Rattle.pc_outcomes.specs.Tables.{shows_outcome, IsFirstPlay, IsEntry, Ascend, HasOtherOutcome, AllDiffer, AreEntries, total_texts}
-use Rattle.pc_outcomes.specs.Under.{one_more, entry_of}
+use Rattle.std.proofs.{Common.{◌≡◌, ℕ, zero, suc, ◌+◌, ◌<◌, ◌≤◌, Bool, true, false, cond, List, [], ◌∷◌, ◌++◌, length, take, get_or, Option, Some, None, refl, sym, ap, ◌∙◌, arith}, lemmas.Bool.{and_parts, false≢true, or_right}, lemmas.List.{take-append-le, take_at}, lemmas.List.Folds.list_any-append, lemmas.List.Sums.{sum_by_push, sum_by-cons}, lemmas.Slice.Eq.bytes_eq-Decides}
+use Rattle.std.specs.{Prelude.{◌&&◌, ◌||◌, IsSomeAnd, slice_get, slice_set}, List.{AllByRecursion, count_by, list_any}, Str.bytes_eq}
+use Rattle.pc_outcomes.specs.{declared.entry.Ending.Ending, declared.entry.Ending.TheVariants.{Done, Cut, TooLong}, declared.entry.Entry.Entry, declared.entry.Play.Play, Plays.{has_outcome, same_ending}, Tables.{shows_outcome, IsFirstPlay, IsEntry, Ascend, HasOtherOutcome, AllDiffer, AreEntries, total_texts}, Under.{one_more, entry_of}}
 
 -- ---- outcomes
 

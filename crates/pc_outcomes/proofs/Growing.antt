@@ -1,14 +1,8 @@
 -- The table of some seeds, and that with one seed more.
-use Rattle.std.proofs.Common.{◌≡◌, ◌≤◌, ◌+◌, ℕ, zero, suc, true, false, List, [], ◌∷◌, ◌++◌, length, refl, sym, ap, ◌∙◌, subst, arith, length-append}
-use Rattle.std.specs.Prelude.{IfSome, slice_get}
-use Rattle.std.specs.List.{list_any}
-use Rattle.std.proofs.lemmas.List.Sums.{sum_by_push}
+use Rattle.std.proofs.{Common.{◌≡◌, ◌≤◌, ◌+◌, ℕ, zero, suc, true, false, List, [], ◌∷◌, ◌++◌, length, refl, sym, ap, ◌∙◌, subst, arith, length-append}, lemmas.List.Sums.sum_by_push}
+use Rattle.std.specs.{Prelude.{IfSome, slice_get}, List.list_any}
 use Rattle.pc_core.specs.CoreData.{CoreData}
-use Rattle.pc_outcomes.specs.declared.entry.Entry.{Entry}
-use Rattle.pc_outcomes.specs.declared.entry.Play.{Play}
-use Rattle.pc_outcomes.specs.Plays.{ArePlays, IsPlayOfSeed}
-use Rattle.pc_outcomes.specs.Tables.{IsOutcomesTable, shows_outcome, steps_limit, texts_limit, total_steps, total_texts}
-use Rattle.pc_outcomes.specs.Under.{entry_of}
+use Rattle.pc_outcomes.specs.{declared.entry.Entry.Entry, declared.entry.Play.Play, Plays.{ArePlays, IsPlayOfSeed}, Tables.{IsOutcomesTable, shows_outcome, steps_limit, texts_limit, total_steps, total_texts}, Under.entry_of}
 use Rattle.pc_outcomes.proofs.Grouping.{counted, counted_entries, new_entries, texts_counted, texts_new}
 
 if_push : {X : Type 0} (P : ℕ → X → Type 0) (xs : List X) (y : X) → ((i : ℕ) → IfSome (slice_get xs i) (P i)) → P (length xs) y → (i : ℕ) → IfSome (slice_get (xs ++ y ∷ []) i) (P i)

@@ -1,10 +1,9 @@
 -- Plays of seeds, and their outcomes.
-use Rattle.std.specs.Prelude.{◌≡◌, ℕ, zero, suc, Bool, true, false, ◌&&◌, List, length, Option, Some, None, IfSome, slice_get}
-use Rattle.std.specs.Str.{bytes_eq}
+use Rattle.std.specs.{Prelude.{◌≡◌, ℕ, zero, suc, Bool, true, false, ◌&&◌, List, length, Option, Some, None, IfSome, slice_get}, Str.bytes_eq}
 use Rattle.pc_core.specs.CoreData.{CoreData}
-use Rattle.pc_semantics.specs.{declared.outcome.Outcome.Outcome, Step.after, Step.outcomes, Text.lines, Text.end_of}
+use Rattle.pc_semantics.specs.{declared.outcome.Outcome.Outcome, Step.{after, outcomes}, Text.{lines, end_of}}
 use Rattle.pc_choose.specs.{Able.able_actors, Lists.Chosen}
-use Rattle.pc_outcomes.specs.{declared.entry.Ending.Ending, declared.entry.Ending.TheVariants.Done, declared.entry.Ending.TheVariants.Cut, declared.entry.Ending.TheVariants.TooLong, declared.entry.Play.Play}
+use Rattle.pc_outcomes.specs.{declared.entry.Ending.Ending, declared.entry.Ending.TheVariants.{Done, Cut, TooLong}, declared.entry.Play.Play}
 
 -- How a run ended, given how many actors are able after it and the step that ended it, if one did.
 abbrev pub ending_after : (able : ℕ) → Option (ℕ × Outcome) → Ending

@@ -1,8 +1,7 @@
 -- Tables of outcomes.
-use Rattle.std.specs.Prelude.{◌≡◌, ℕ, ◌+◌, ◌<◌, ◌≤◌, Bool, true, false, List, [], ◌∷◌, length, take, Result, Ok, Err, IsSomeAnd, slice_get, ⊤}
-use Rattle.std.specs.List.{AllByRecursion, count_by, list_any, sum_by}
+use Rattle.std.specs.{Prelude.{◌≡◌, ℕ, ◌+◌, ◌<◌, ◌≤◌, Bool, true, false, List, [], ◌∷◌, length, take, Result, Ok, Err, IsSomeAnd, slice_get, ⊤}, List.{AllByRecursion, count_by, list_any, sum_by}}
 use Rattle.pc_core.specs.CoreData.{CoreData}
-use Rattle.pc_outcomes.specs.{declared.entry.Entry.Entry, declared.entry.Play.Play, declared.fault.OutcomesFault.OutcomesFault, Plays.ArePlays, Plays.IsPlayOfSeed, Plays.has_outcome}
+use Rattle.pc_outcomes.specs.{declared.entry.Entry.Entry, declared.entry.Play.Play, declared.fault.OutcomesFault.OutcomesFault, Plays.{ArePlays, IsPlayOfSeed, has_outcome}}
 use Rattle.pc_outcomes.specs.declared.fault.OutcomesFault.TheVariants as fault
 
 -- how many steps all plays may have together

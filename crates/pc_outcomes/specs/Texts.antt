@@ -1,6 +1,6 @@
 -- A table of outcomes as text.
 use Rattle.std.specs.Prelude.{◌==◌, ℕ, Bool, true, false, List, [], ◌∷◌, ◌++◌, codes, decimal, flat_map}
-use Rattle.pc_outcomes.specs.{declared.entry.Ending.Ending, declared.entry.Ending.TheVariants.Done, declared.entry.Ending.TheVariants.Cut, declared.entry.Ending.TheVariants.TooLong, declared.entry.Entry.Entry}
+use Rattle.pc_outcomes.specs.{declared.entry.Ending.Ending, declared.entry.Ending.TheVariants.{Done, Cut, TooLong}, declared.entry.Entry.Entry}
 
 -- How a play ended, if it did not run to its end.
 abbrev pub ending_words : Ending → List ℕ

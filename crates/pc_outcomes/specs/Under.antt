@@ -1,7 +1,7 @@
 -- A table in the making.
 use Rattle.std.specs.Prelude.{◌≡◌, ℕ, ◌+◌, List, Result, Ok, Err, ⊤}
 use Rattle.pc_core.specs.CoreData.{CoreData}
-use Rattle.pc_outcomes.specs.{declared.entry.Entry.Entry, declared.entry.Play.Play, declared.fault.OutcomesFault.OutcomesFault, declared.table.Totals.Totals, Tables.IsOutcomesTable, Tables.StepsPass, Tables.TextsPass, Tables.total_steps, Tables.total_texts}
+use Rattle.pc_outcomes.specs.{declared.entry.Entry.Entry, declared.entry.Play.Play, declared.fault.OutcomesFault.OutcomesFault, declared.table.Totals.Totals, Tables.{IsOutcomesTable, StepsPass, TextsPass, total_steps, total_texts}}
 use Rattle.pc_outcomes.specs.declared.fault.OutcomesFault.TheVariants as fault
 
 -- The entry with one seed more.

@@ -6,7 +6,7 @@ ghost use Rattle.pc_outcomes.specs.Under.{one_more, entry_of};
 
 use crate::entry::{Ending, Entry, Outcome, Seeds};
 use indexmap::IndexMap;
-use pc_caps::List;
+use pc_base::List;
 use std::alloc::{AllocError, Global};
 use std::marker::Model;
 

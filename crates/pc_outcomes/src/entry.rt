@@ -1,6 +1,6 @@
 //! Outcomes.
 
-use pc_caps::List;
+use pc_base::List;
 
 /// How a play ended.
 #[derive(Clone, Copy, Debug, PartialEq, Eq, Hash)]

@@ -3,14 +3,14 @@ ghost use Rattle.std.specs.Prelude.{◌≡◌, ◌++◌, [], ℕ, IfOk, OnOk, Li
 ghost use Rattle.pc_core.specs.CoreData.{CoreData};
 ghost use Rattle.pc_semantics.specs.Configurations.{Configuration};
 ghost use Rattle.pc_semantics.specs.Step as run;
-ghost use Rattle.pc_lists.specs.Lists.{line_end};
+ghost use Rattle.pc_base.specs.Lists.{line_end};
 ghost use Rattle.pc_semantics.specs.Text.{lines, end_of};
 ghost use Rattle.pc_run.specs.Ends.{NeverLacks};
 ghost use Rattle.pc_run.specs.Underway.{ReachedSoFar};
 ghost use Rattle.pc_outcomes.specs.Plays.{IsPlayOfSeed, ending_after};
 
 use crate::entry::{Ending, Play};
-use pc_caps::List;
+use pc_base::List;
 use pc_choose::count_able;
 use pc_core::Core;
 use pc_play::play_through;

@@ -12,7 +12,7 @@ use crate::entries::{Entries, outcome_of};
 use crate::entry::{Entry, Outcome, Play};
 use crate::fault::OutcomesFault;
 use crate::playing::play_of;
-use pc_caps::List;
+use pc_base::List;
 use pc_core::Core;
 use std::alloc::Global;
 

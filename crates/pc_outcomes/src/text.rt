@@ -3,7 +3,7 @@ ghost use Rattle.std.specs.Prelude.{◌≡◌, ◌++◌, IfOk, OnOk, string_byte
 ghost use Rattle.pc_outcomes.specs.Texts as spec;
 
 use crate::entry::{Ending, Entry};
-use pc_caps::List;
+use pc_base::List;
 use std::alloc::{AllocError, Global};
 
 // How a play ended, if it did not run to its end.

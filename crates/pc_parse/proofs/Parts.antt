@@ -1,11 +1,9 @@
 -- A rule with a repetition reads as its parts do.
 use Rattle.std.proofs.Common.{◌≡◌, Bool, true, false, List, [], ◌∷◌, refl, sym, ◌∙◌, if◌then◌else◌}
 use Rattle.pc_tree.specs.Tree as t
-use Rattle.pc_token.specs.declared.kinds.Token.{Token}
+use Rattle.pc_token.specs.{declared.kinds.Token.Token, Words.is_sign}
 use Rattle.pc_token.specs.declared.signs.Sign.TheVariants as s
-use Rattle.pc_token.specs.Words.{is_sign}
-use Rattle.pc_grammar.specs.Reading.{Parser, ◌>>=◌, ◌>>◌, pure, peek, take_if, all, after, at}
-use Rattle.pc_grammar.specs.ReadingFile.{is_end, maybe_doc, param, param_list, type_names, begins_entity, entity, file}
+use Rattle.pc_grammar.specs.{Reading.{Parser, ◌>>=◌, ◌>>◌, pure, peek, take_if, all, after, at}, ReadingFile.{is_end, maybe_doc, param, param_list, type_names, begins_entity, entity, file}}
 use Rattle.pc_expr.specs.Onto.{onto}
 use Rattle.pc_expr.proofs.Parts.{same_behind, grouped, onto_first}
 use Rattle.pc_parse.specs.Parts.{some_params, param_list_parts, some_type_names, some_entities, file_parts}

@@ -1,21 +1,15 @@
 -- From reading to the promises of the public call.
 use Rattle.std.proofs.Common.{◌≡◌, ℕ, ◌<◌, ◌≤◌, List, [], ◌∷◌, drop, length, Ok, Err, sym, ap, ◌∙◌, subst, arith, length-drop}
 use Rattle.pc_tree.specs.Tree as t
-use Rattle.pc_tree.specs.declared.file.File.{File}
-use Rattle.pc_tree.specs.View.{file_view}
+use Rattle.pc_tree.specs.{declared.file.File.File, View.file_view}
 use Rattle.pc_token.specs.declared.kinds.Token.{Token}
 use Rattle.pc_grammar.specs.Reading as reading
-use Rattle.pc_grammar.specs.Reading.{ReadingOutcome}
+use Rattle.pc_grammar.specs.{Reading.ReadingOutcome, FileAnswers.{FileAnswer, spelled, unexpected, too_deep, IsFileAnswer}, Laws.AnswersFor}
 use Rattle.pc_grammar.specs.ReadingFile as rules
-use Rattle.pc_grammar.specs.FileAnswers.{FileAnswer, spelled, unexpected, too_deep, IsFileAnswer}
-use Rattle.pc_grammar.specs.Laws.{AnswersFor}
 use Rattle.pc_grammar.proofs.FileAnswers.{file_is_answered, one_file_answer}
-use Rattle.pc_expr.specs.declared.stop.ParseStop.{ParseStop}
+use Rattle.pc_expr.specs.{declared.stop.ParseStop.ParseStop, declared.fault.ParseFault.ParseFault, Gives.Stops, Answers.NamesByte}
 use Rattle.pc_expr.specs.declared.stop.ParseStop.TheVariants as stop
-use Rattle.pc_expr.specs.declared.fault.ParseFault.{ParseFault}
 use Rattle.pc_expr.specs.declared.fault.ParseFault.TheVariants as fault
-use Rattle.pc_expr.specs.Gives.{Stops}
-use Rattle.pc_expr.specs.Answers.{NamesByte}
 use Rattle.pc_parse.specs.Answers.{StopsRight, RefusesFile, Is}
 
 -- ---- what is read, by the number of tokens left

@@ -1,6 +1,6 @@
 -- The rules of the grammar of files in parts, with the levels of a file.
 use Rattle.std.specs.Prelude.{List, [], ◌∷◌, if◌then◌else◌}
-use Rattle.pc_grammar.specs.{Parts.inner_levels, Reading.Parser, Reading.◌>>=◌, Reading.◌>>◌, Reading.pure, Reading.peek, Reading.take_if, Reading.all, Reading.after, Reading.at, Reading.type_name, ReadingFile.is_end, ReadingFile.maybe_doc, ReadingFile.param, ReadingFile.begins_field, ReadingFile.some_field, ReadingFile.begins_method, ReadingFile.some_method, ReadingFile.begins_entity, ReadingFile.entity}
+use Rattle.pc_grammar.specs.{Parts.inner_levels, Reading.{Parser, ◌>>=◌, ◌>>◌, pure, peek, take_if, all, after, at, type_name}, ReadingFile.{is_end, maybe_doc, param, begins_field, some_field, begins_method, some_method, begins_entity, entity}}
 use Rattle.pc_tree.specs.{declared.written_names.Name.Name, declared.file.ParamDef.ParamDef, declared.kinds.EntityKind.EntityKind}
 use Rattle.pc_token.specs.Words.{is_sign}
 use Rattle.pc_expr.specs.Onto.{onto}

@@ -8,7 +8,7 @@ ghost use Rattle.pc_grammar.specs.Parts.{inner_levels};
 
 use crate::levels::INNER_LEVELS;
 use crate::tokens::{after_doc, at_field};
-use pc_caps::List;
+use pc_base::List;
 use pc_expr::parsers::{
     ParseStop, infix, local_word, look, name, take_sign, take_word, written_type,
 };

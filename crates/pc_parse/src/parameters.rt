@@ -4,7 +4,7 @@ ghost use Rattle.pc_grammar.specs.ReadingFile as rules;
 ghost use Rattle.pc_expr.specs.Gives.{StandsAtToken, Moves, GivesReading};
 ghost use Rattle.pc_parse.specs.Parts as parts;
 
-use pc_caps::List;
+use pc_base::List;
 use pc_expr::parsers::{ParseStop, after_comma, look, name, take_sign, written_type};
 use pc_token::{Sign, Token, is_sign};
 use pc_tree::ParamDef;

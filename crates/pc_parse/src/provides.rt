@@ -5,7 +5,7 @@ ghost use Rattle.pc_expr.specs.Gives.{StandsAtToken, Moves, GivesReading};
 ghost use Rattle.pc_parse.specs.Parts as parts;
 
 use crate::tokens::after_ampersand;
-use pc_caps::List;
+use pc_base::List;
 use pc_expr::parsers::{ParseStop, look, take_sign, take_word, type_name};
 use pc_token::{Sign, Token, Word, is_sign, is_word};
 use pc_tree::Name;

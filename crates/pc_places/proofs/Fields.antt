@@ -1,9 +1,7 @@
 -- The fields of the entities, one entity after the other.
 use Rattle.std.specs.Prelude.{◌≡◌, ℕ, zero, suc, ◌+◌, List, [], ◌∷◌, ◌++◌, map, drop, Some, slice_get}
-use Rattle.std.proofs.Common.{ap, sym, ◌∙◌, arith, append_assoc}
-use Rattle.std.proofs.lemmas.Option.{same_Some, none-some}
-use Rattle.pc_core.specs.declared.declarations.EntityDef.{EntityDef}
-use Rattle.pc_core.specs.declared.declarations.FieldInfo.{FieldInfo}
+use Rattle.std.proofs.{Common.{ap, sym, ◌∙◌, arith, append_assoc}, lemmas.Option.{same_Some, none-some}}
+use Rattle.pc_core.specs.{declared.declarations.EntityDef.EntityDef, declared.declarations.FieldInfo.FieldInfo}
 use Rattle.pc_places.specs.Text.{fields_from}
 
 -- The next entity's fields are the first of the remaining ones.

@@ -1,9 +1,7 @@
 -- Texts that are appended one after the other.
 use Rattle.std.specs.Prelude.{◌≡◌, ℕ, zero, suc, ◌+◌, List, [], ◌∷◌, ◌++◌, drop, Some, slice_get}
-use Rattle.std.proofs.Common.{ap, sym, ◌∙◌, append_assoc, arith}
-use Rattle.std.proofs.lemmas.Option.{same_Some, none-some}
-use Rattle.pc_core.specs.CoreData.{CoreData}
-use Rattle.pc_core.specs.declared.declarations.Method.{Method}
+use Rattle.std.proofs.{Common.{ap, sym, ◌∙◌, append_assoc, arith}, lemmas.Option.{same_Some, none-some}}
+use Rattle.pc_core.specs.{CoreData.CoreData, declared.declarations.Method.Method}
 use Rattle.pc_places.specs.Text.{method_line, methods_text}
 
 -- The next part was appended, and what remains is the rest.

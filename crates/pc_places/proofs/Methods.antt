@@ -1,12 +1,8 @@
 -- The nodes of a method are within those of the core.
 use Rattle.std.specs.Prelude.{◌≡◌, ◌≤◌, ◌-◌, ℕ, length, Option, Some, None, slice_get, refl}
 use Rattle.std.proofs.Common.{arith}
-use Rattle.pc_core.specs.CoreData.{CoreData, node_end}
-use Rattle.pc_core.specs.Formed.{Formed}
-use Rattle.pc_core.specs.Methods.{BodyFits}
-use Rattle.pc_core.specs.declared.declarations.Method.{Method}
-use Rattle.pc_lists.proofs.Gets.{get_map}
-use Rattle.pc_lists.proofs.Ranges.{run_within}
+use Rattle.pc_core.specs.{CoreData.{CoreData, node_end}, Formed.Formed, Methods.BodyFits, declared.declarations.Method.Method}
+use Rattle.pc_base.proofs.{Gets.get_map, Ranges.run_within}
 
 module _ (core : CoreData) (formed : Formed core) (m : ℕ) (x : Method) (is : slice_get core.methods m ≡ Some x) where
   ends_by : (body : Option ℕ) → ((b : ℕ) → body ≡ Some b → BodyFits core m x b) → x.first_node ≤ node_end x.first_node body

@@ -1,11 +1,8 @@
 -- The search in ascending tokens.
 use Rattle.std.specs.Prelude.{◌≡◌, ◌<◌, ◌≤◌, ◌+◌, ◌-◌, ◌/◌, ℕ, zero, suc, cond, List, [], ◌∷◌, Some, find, nat_lt, slice_get, refl}
-use Rattle.std.proofs.Common.{inl, inr, ap, sym, subst, ◌∙◌, arith}
-use Rattle.std.proofs.lemmas.Bool.{lt-ltb, le-ltb}
-use Rattle.std.proofs.lemmas.Bool.Decides.{leb_tells}
-use Rattle.std.proofs.lemmas.Option.{same_Some}
-use Rattle.pc_lists.proofs.Gets.{get_map}
-use Rattle.pc_lists.specs.Lists.{Ascends}
+use Rattle.std.proofs.{Common.{inl, inr, ap, sym, subst, ◌∙◌, arith}, lemmas.Bool.{lt-ltb, le-ltb}, lemmas.Bool.Decides.leb_tells, lemmas.Option.same_Some}
+use Rattle.pc_base.proofs.Gets.{get_map}
+use Rattle.pc_base.specs.Lists.{Ascends}
 use Rattle.pc_places.specs.Search.{IsAfter}
 use Rattle.pc_text_order.specs.Laws.{starts}
 use Rattle.pc_token.specs.declared.kinds.Token.{Token}

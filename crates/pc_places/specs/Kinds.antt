@@ -1,7 +1,7 @@
 -- The kinds of nodes, each with what it refers to.
 use Rattle.std.specs.Prelude.{◌++◌, Option, Some, None, codes, decimal, slice_get}
 use Rattle.pc_core.specs.{CoreData.CoreData, declared.nodes.NodeKind.NodeKind}
-use Rattle.pc_lists.specs.Lists.{Text}
+use Rattle.pc_base.specs.Lists.{Text}
 use Rattle.pc_core.specs.declared.nodes.NodeKind.TheVariants as node
 
 -- A name, or `-` if there is none.

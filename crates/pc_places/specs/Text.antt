@@ -1,11 +1,10 @@
 -- The text of the places of a core.
 use Rattle.std.specs.Prelude.{◌≡◌, ℕ, suc, List, [], ◌∷◌, ◌++◌, length, map, Option, Some, None, nat_eq, if◌then◌else◌, codes, decimal, slice_get}
-use Rattle.pc_caps.specs.declared.span.Span.{Span}
+use Rattle.pc_base.specs.{declared.span.Span.Span, Lists.{Text, line_end}}
 use Rattle.pc_core.specs.{CoreData.CoreData, declared.declarations.EntityDef.EntityDef, declared.declarations.FieldInfo.FieldInfo, declared.declarations.Method.Method, declared.nodes.Node.Node, declared.nodes.Slot.Slot}
-use Rattle.pc_deriv.specs.Text.{cap_name}
+use Rattle.pc_caps.specs.Words.{cap_name}
 use Rattle.pc_lex.specs.Pieces.{TokenList}
-use Rattle.pc_lists.specs.Lists.{Text, line_end}
-use Rattle.pc_places.specs.{Kinds.kind_text, Kinds.name_or_dash, Names.slot_place, Names.source_text_at, Names.writer_of, Words.entity_kind_word, Words.field_word, Words.method_kind_word, Words.slot_word}
+use Rattle.pc_places.specs.{Kinds.{kind_text, name_or_dash}, Names.{slot_place, source_text_at, writer_of}, Words.{entity_kind_word, field_word, method_kind_word, slot_word}}
 use Rattle.pc_token.specs.declared.kinds.Token.{Token}
 
 abbrev pub space : Text

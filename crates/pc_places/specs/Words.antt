@@ -1,7 +1,7 @@
 -- The words of kinds.
 use Rattle.std.specs.Prelude.{Bool, true, false, codes}
 use Rattle.pc_core.specs.{declared.declarations.MethodKind.MethodKind, declared.nodes.SlotKind.SlotKind}
-use Rattle.pc_lists.specs.Lists.{Text}
+use Rattle.pc_base.specs.Lists.{Text}
 use Rattle.pc_tree.specs.declared.kinds.EntityKind.{EntityKind}
 use Rattle.pc_core.specs.declared.declarations.MethodKind.TheVariants as method
 use Rattle.pc_core.specs.declared.nodes.SlotKind.TheVariants as slot

@@ -1,14 +1,15 @@
 //! A line of each kind.
 ghost use Rattle.std.specs.Prelude.{◌≡◌, ◌++◌, ◌-◌, OnOk, count_by};
-ghost use Rattle.pc_lists.specs.Lists.{Ascends};
+ghost use Rattle.pc_base.specs.Lists.{Ascends};
 ghost use Rattle.pc_places.specs.Names as names;
 ghost use Rattle.pc_places.specs.Text as spec;
 ghost use Rattle.pc_text_order.specs.Laws.{starts};
 
 use crate::kinds::{push_kind, push_name, push_number};
 use crate::locals::slot_place;
-use crate::words::{cap_word, entity_word, field_word, method_word, slot_word};
-use pc_caps::Span;
+use crate::words::{entity_word, field_word, method_word, slot_word};
+use pc_base::Span;
+use pc_caps::cap_name;
 use pc_core::{Core, EntityDef, FieldInfo, Method, Node, Slot};
 use pc_token::Token;
 use std::alloc::{AllocError, Global};
@@ -43,7 +44,7 @@ pub fn push_entity(alloc: Global, text: &mut Vec<u8>, entity: &EntityDef) -> Res
     ensures { OnOk result (text.new.items ≡ text.old.items ++ spec.entity_line entity.now) }
 {
     let kind = entity_word(entity.kind);
-    let cap = cap_word(entity.cap);
+    let cap = cap_name(entity.cap);
     let words = format!(in alloc; "e {kind} {cap} ")?;
     text.extend_from_slice(words.as_bytes())?;
     push_place(alloc, text, entity.span)?;
@@ -62,7 +63,7 @@ fn push_field_words(
     let (owner, field) = field;
     let word = field_word(field.fixed);
     let entity = field.entity;
-    let cap = cap_word(field.cap);
+    let cap = cap_name(field.cap);
     let words = format!(in alloc; "f {owner} {word} {entity} {cap} ")?;
     text.extend_from_slice(words.as_bytes())
 }

@@ -2,12 +2,12 @@
 ghost use Rattle.std.specs.Prelude.{◌≡◌, ◌+◌, ◌<◌, ◌≤◌, ◌^◌, find, length, slice_get, option_copied};
 ghost use Rattle.pc_core.specs.CoreData.{node_end};
 ghost use Rattle.pc_core.specs.Further.{own_nodes};
-ghost use Rattle.pc_lists.specs.Lists.{Ascends};
+ghost use Rattle.pc_base.specs.Lists.{Ascends};
 ghost use Rattle.pc_places.specs.Names as spec;
 ghost use Rattle.pc_places.specs.Search.{IsAfter};
 ghost use Rattle.pc_text_order.specs.Laws.{starts};
 
-use pc_caps::Span;
+use pc_base::Span;
 use pc_core::{Core, Method, Node, NodeKind, Slot, SlotKind};
 use pc_token::Token;
 

@@ -1,13 +1,13 @@
 //! The whole text.
 ghost use Rattle.std.specs.Prelude.{◌≡◌, ◌++◌, ◌<◌, ◌^◌, ◌≤◌, IfOk, OnOk, length, map};
 ghost use Rattle.pc_lex.specs.Pieces.{bytes_limit};
-ghost use Rattle.pc_lists.specs.Lists.{Ascends};
+ghost use Rattle.pc_base.specs.Lists.{Ascends};
 ghost use Rattle.pc_places.specs.Text as spec;
 ghost use Rattle.pc_text_order.specs.Laws.{starts};
 
 use crate::lines::{push_entity, push_field, push_head, push_method, push_node, push_slot};
 use crate::tokens::tokens_of;
-use pc_caps::List;
+use pc_base::List;
 use pc_core::{Core, EntityDef, FieldInfo};
 use pc_text_order::tokens_are_in_order;
 use pc_token::Token;

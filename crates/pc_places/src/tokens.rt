@@ -3,7 +3,7 @@ ghost use Rattle.std.specs.Prelude.{◌≤◌, IfOk, length};
 ghost use Rattle.pc_lex.specs.Pieces.{TokenList, bytes_limit};
 ghost use Rattle.pc_places.specs.Text.{HasTokens};
 
-use pc_caps::List;
+use pc_base::List;
 use pc_lex::{LexFault, lex};
 use pc_token::Token;
 use std::alloc::{AllocError, Global};

@@ -1,25 +1,9 @@
 //! The words of the text.
 ghost use Rattle.std.specs.Prelude.{◌≡◌};
-ghost use Rattle.pc_deriv.specs.Text.{cap_name};
 ghost use Rattle.pc_places.specs.Words as spec;
 
-use pc_caps::Cap;
 use pc_core::{MethodKind, SlotKind};
 use pc_tree::EntityKind;
-
-/// The word of a capability.
-pub fn cap_word(cap: Cap) -> &'static str
-    ensures { result.now ≡ cap_name cap }
-{
-    match cap {
-        Cap::Iso => "iso",
-        Cap::Trn => "trn",
-        Cap::Ref => "ref",
-        Cap::Val => "val",
-        Cap::Box => "box",
-        Cap::Tag => "tag",
-    }
-}
 
 /// The word of a kind of entity.
 pub fn entity_word(kind: EntityKind) -> &'static str

@@ -1,12 +1,9 @@
 -- How long the line of a list of turns is: at most 11 bytes a turn.
-use Rattle.std.proofs.Common.{◌≡◌, ℕ, zero, suc, ◌+◌, ◌-◌, ◌*◌, ◌<◌, ◌≤◌, ◌^◌, Bool, true, false, nat_eq, List, [], ◌∷◌, ◌++◌, length, replicate, inl, inr, refl, sym, ap, subst, ◌∙◌, arith, length-append}
-use Rattle.std.proofs.lemmas.Fmt.{length-decimal-le}
-use Rattle.std.specs.Prelude.{decimal, if◌then◌else◌, ◌⊎◌}
-use Rattle.std.specs.List.{AllByRecursion}
+use Rattle.std.proofs.{Common.{◌≡◌, ℕ, zero, suc, ◌+◌, ◌-◌, ◌*◌, ◌<◌, ◌≤◌, ◌^◌, Bool, true, false, nat_eq, List, [], ◌∷◌, ◌++◌, length, replicate, inl, inr, refl, sym, ap, subst, ◌∙◌, arith, length-append}, lemmas.Fmt.length-decimal-le}
+use Rattle.std.specs.{Prelude.{decimal, if◌then◌else◌, ◌⊎◌}, List.AllByRecursion}
 use Rattle.pc_semantics.specs.Text.{steps_of}
 use Rattle.pc_run.specs.Spreading.{spread}
-use Rattle.pc_sched.specs.declared.turns.Turn.{Turn}
-use Rattle.pc_sched.specs.Schedules.{schedule_limit, turn_limit, total}
+use Rattle.pc_sched.specs.{declared.turns.Turn.Turn, Schedules.{schedule_limit, turn_limit, total}}
 use Rattle.pc_sched_lines.specs.Lines.{IsLine, line_of, turn_word, more_words, AreRows, HasOtherActor}
 use Rattle.pc_choose.specs.Laws.{InTurns, IsTurn}
 use Rattle.pc_choose.proofs.Cutting.{lists_are_in_turns}

@@ -1,31 +1,14 @@
 -- A play under way is the run of the list of its seed under way.
 use Rattle.std.proofs.Common.{◌≡◌, ◌≢◌, ℕ, suc, ◌+◌, ◌-◌, ◌<◌, ◌≤◌, List, [], ◌∷◌, Option, Some, None, Result, Ok, Err, refl, sym, ap, subst, ◌∙◌, arith, zero-add, length, append-nil}
-use Rattle.std.specs.Prelude.{IsErrAnd, IsSomeAnd}
-use Rattle.std.specs.Io.KnownBytes.{Appends}
+use Rattle.std.specs.{Prelude.{IsErrAnd, IsSomeAnd}, Io.KnownBytes.Appends}
 use Rattle.pc_io.specs.Sink.{Change, change}
-use Rattle.pc_run.specs.declared.report.Report.{Report}
-use Rattle.pc_run.specs.declared.report.RunFault.{RunFault}
-use Rattle.pc_run.specs.declared.report.RunFault.TheVariants.{Memory}
+use Rattle.pc_run.specs.{declared.report.Report.Report, declared.report.RunFault.RunFault, declared.report.RunFault.TheVariants.Memory, declared.counts.Counts.Counts, declared.counts.Progress.Progress, declared.counts.Progress.TheVariants.Going, Counting.counted, Ends.{NeverLacks, IsAnswer, WritesText}, Underway.{Underway, ReachedSoFar}}
 use Rattle.pc_core.specs.CoreData.{CoreData}
-use Rattle.pc_semantics.specs.declared.outcome.Lack.{Lack}
-use Rattle.pc_semantics.specs.declared.outcome.Outcome.{Outcome}
-use Rattle.pc_semantics.specs.declared.outcome.Outcome.TheVariants.{Moved, Skipped, Lacks, TooLong}
-use Rattle.pc_semantics.specs.Configurations.{Configuration, start}
-use Rattle.pc_semantics.specs.Step.{step}
+use Rattle.pc_semantics.specs.{declared.outcome.Lack.Lack, declared.outcome.Outcome.Outcome, declared.outcome.Outcome.TheVariants.{Moved, Skipped, Lacks, TooLong}, Configurations.{Configuration, start}, Step.step}
 use Rattle.pc_machine.proofs.Growing.{few_at_start}
 use Rattle.pc_sched.specs.Schedules.{turn_limit}
-use Rattle.pc_run.specs.declared.counts.Counts.{Counts}
-use Rattle.pc_run.specs.declared.counts.Progress.{Progress}
-use Rattle.pc_run.specs.declared.counts.Progress.TheVariants.{Going}
-use Rattle.pc_run.specs.Counting.{counted}
-use Rattle.pc_run.specs.Ends.{NeverLacks, IsAnswer, WritesText}
-use Rattle.pc_run.specs.Underway.{Underway, ReachedSoFar}
 use Rattle.pc_run.proofs.Stepping.{never, stepped as run_stepped}
-use Rattle.pc_choose.specs.declared.point.Point.{Point}
-use Rattle.pc_choose.specs.declared.step.Step.{Step}
-use Rattle.pc_choose.specs.Choice.{turn, stepped, at_first}
-use Rattle.pc_choose.specs.Choosers.{Advances}
-use Rattle.pc_choose.specs.Lists.{most_steps}
+use Rattle.pc_choose.specs.{declared.point.Point.Point, declared.step.Step.Step, Choice.{turn, stepped, at_first}, Choosers.Advances, Lists.most_steps}
 use Rattle.pc_choose.proofs.Listing.{list_of, after_turn, after_step, list_follows, list_short}
 use Rattle.pc_play.specs.Plays.{IsThrough, PlaysAsRun}
 

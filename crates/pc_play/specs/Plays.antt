@@ -4,7 +4,7 @@ use Rattle.pc_core.specs.CoreData.{CoreData}
 use Rattle.pc_io.specs.Sink.{Change}
 use Rattle.pc_semantics.specs.Configurations.{Configuration}
 use Rattle.pc_choose.specs.Lists.{Chosen}
-use Rattle.pc_run.specs.{declared.counts.Progress.Progress, declared.report.Report.Report, declared.report.RunFault.RunFault, Ends.IsAnswer, Ends.WritesText, Underway.ReachedSoFar}
+use Rattle.pc_run.specs.{declared.counts.Progress.Progress, declared.report.Report.Report, declared.report.RunFault.RunFault, Ends.{IsAnswer, WritesText}, Underway.ReachedSoFar}
 
 -- The run of the seed's list came to configuration c with this progress; the list has this number of steps, and none is
 -- left.

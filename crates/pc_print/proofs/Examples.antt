@@ -1,7 +1,6 @@
 -- The printing of one small file, computed.
 use Rattle.std.proofs.Common.{refl}
-use Rattle.pc_print.specs.Printing.{printed, escaped}
-use Rattle.pc_print.specs.Examples.{MainIsPrinted}
+use Rattle.pc_print.specs.{Printing.{printed, escaped}, Examples.MainIsPrinted}
 
 pub main_is_printed : MainIsPrinted
 unfolding printed escaped

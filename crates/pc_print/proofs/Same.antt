@@ -4,20 +4,15 @@ use Rattle.std.specs.Prelude.{codes}
 use Rattle.pc_caps.specs.declared.capability.Cap.{Cap}
 use Rattle.pc_caps.specs.declared.capability.Cap.TheVariants as c
 use Rattle.pc_tree.specs.Tree as t
-use Rattle.pc_tree.specs.declared.written_names.Name.{Name}
-use Rattle.pc_tree.specs.declared.written_names.TypeRef.{TypeRef}
-use Rattle.pc_tree.specs.declared.file.ParamDef.{ParamDef}
-use Rattle.pc_tree.specs.declared.kinds.Op.{Op}
+use Rattle.pc_tree.specs.{declared.written_names.Name.Name, declared.written_names.TypeRef.TypeRef, declared.file.ParamDef.ParamDef, declared.kinds.Op.Op}
 use Rattle.pc_tree.specs.declared.kinds.Op.TheVariants as o
-use Rattle.pc_token.specs.declared.words.Word.{Word}
+use Rattle.pc_token.specs.{declared.words.Word.Word, Words.word_text}
 use Rattle.pc_token.specs.declared.words.Word.TheVariants as w
 use Rattle.pc_token.specs.declared.signs.Sign.TheVariants as s
-use Rattle.pc_token.specs.Words.{word_text}
 use Rattle.pc_grammar.specs.Spells.{local_word, method_word, entity_word}
 use Rattle.pc_lex.specs.Pieces.{Piece}
-use Rattle.pc_print.proofs.Spelling.{word, sign, blank, feed, op_kind, spelling}
+use Rattle.pc_print.proofs.{Spelling.{word, sign, blank, feed, op_kind, spelling}, Pieced.joined}
 use Rattle.pc_print.proofs.Pieced as p
-use Rattle.pc_print.proofs.Pieced.{joined}
 use Rattle.pc_print.specs.Parts as parts
 use Rattle.pc_print.specs.Printing as text
 use Rattle.pc_print.specs.Printing.{printed}

@@ -1,22 +1,14 @@
 -- What is printed for the parts of an expression, by the value that was matched.
 use Rattle.std.proofs.Common.{◌≡◌, Bool, List, ◌++◌, Option, codes, sym, ap, ◌∙◌, append_assoc}
-use Rattle.std.specs.declared.boxed.Box.{Box}
-use Rattle.std.specs.declared.alloc.Global.{Global}
+use Rattle.std.specs.{declared.boxed.Box.Box, declared.alloc.Global.Global}
 use Rattle.pc_caps.specs.declared.capability.Cap.{Cap}
-use Rattle.pc_caps.specs.declared.span.Span.{Span}
+use Rattle.pc_base.specs.declared.span.Span.{Span}
 use Rattle.pc_token.specs.Words.{word_text}
 use Rattle.pc_grammar.specs.Spells.{local_word}
-use Rattle.pc_tree.specs.declared.written_names.Name.{Name}
-use Rattle.pc_tree.specs.declared.written_names.TypeRef.{TypeRef}
-use Rattle.pc_tree.specs.declared.expression.Expr.{Expr}
+use Rattle.pc_tree.specs.{declared.written_names.Name.Name, declared.written_names.TypeRef.TypeRef, declared.expression.Expr.Expr, declared.expression.Item.Item, declared.expression.Suffix.Suffix, declared.expression.Arm.Arm, declared.expression.Seq.Seq, View.{expr_view, item_view, suffix_view, arm_view, seq_view, exprs_view, suffixes_view, arms_view, items_view, other_view}}
 use Rattle.pc_tree.specs.declared.expression.Expr.TheVariants as e
-use Rattle.pc_tree.specs.declared.expression.Item.{Item}
 use Rattle.pc_tree.specs.declared.expression.Item.TheVariants as i
-use Rattle.pc_tree.specs.declared.expression.Suffix.{Suffix}
 use Rattle.pc_tree.specs.declared.expression.Suffix.TheVariants as s
-use Rattle.pc_tree.specs.declared.expression.Arm.{Arm}
-use Rattle.pc_tree.specs.declared.expression.Seq.{Seq}
-use Rattle.pc_tree.specs.View.{expr_view, item_view, suffix_view, arm_view, seq_view, exprs_view, suffixes_view, arms_view, items_view, other_view}
 use Rattle.pc_tree.proofs.Views.{view_not, view_chain, view_if, view_while, view_recover, view_assign, view_dot, view_args, view_local, view_arm, view_seq}
 use Rattle.pc_print.specs.Parts as parts
 use Rattle.pc_print.specs.Printing as text

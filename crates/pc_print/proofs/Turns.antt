@@ -1,8 +1,6 @@
 -- One iteration of a loop that prints, and its end.
-use Rattle.std.proofs.Common.{◌≡◌, ℕ, Bool, true, false, cond, List, [], ◌++◌, if◌then◌else◌, Result, Ok, Err, sym, ap, ◌∙◌, append_assoc}
+use Rattle.std.proofs.{Common.{◌≡◌, ℕ, Bool, true, false, cond, List, [], ◌++◌, if◌then◌else◌, Result, Ok, Err, sym, ap, ◌∙◌, append_assoc}, lemmas.List.append-nil, lemmas.Result.on_ok_weaker}
 use Rattle.std.specs.Result.{OnOk, is_ok}
-use Rattle.std.proofs.lemmas.List.{append-nil}
-use Rattle.std.proofs.lemmas.Result.{on_ok_weaker}
 
 -- What was printed, and what is printed for the rest of a list, once its first part is printed too.
 pub turn : (out pushed part rest all : List ℕ) → pushed ≡ out ++ part → out ++ (part ++ rest) ≡ all → pushed ++ rest ≡ all

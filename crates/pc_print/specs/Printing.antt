@@ -1,10 +1,9 @@
 -- The printed text of a tree.
-use Rattle.std.specs.Prelude.{ℕ, ◌/◌, ◌%◌, ◌==◌, ◌||◌, nat_lt, List, [], ◌∷◌, ◌++◌, if◌then◌else◌, Option, codes, decimal, flat_map}
-use Rattle.std.specs.{Char.digit_char, List.join_by, Option.option_map_or}
-use Rattle.pc_caps.specs.declared.capability.Cap.{Cap}
+use Rattle.std.specs.{Prelude.{ℕ, ◌/◌, ◌%◌, ◌==◌, ◌||◌, nat_lt, List, [], ◌∷◌, ◌++◌, if◌then◌else◌, Option, codes, decimal, flat_map}, Char.digit_char, List.join_by, Option.option_map_or}
+use Rattle.pc_caps.specs.{declared.capability.Cap.Cap, Words.cap_name}
 use Rattle.pc_tree.specs.{declared.written_names.Name.Name, declared.written_names.TypeRef.TypeRef, declared.file.ParamDef.ParamDef, declared.kinds.Op.Op}
 use Rattle.pc_token.specs.Words.{word_text}
-use Rattle.pc_grammar.specs.{Spells.local_word, Spells.truth_word, Spells.method_word, Spells.entity_word}
+use Rattle.pc_grammar.specs.Spells.{local_word, truth_word, method_word, entity_word}
 use Rattle.pc_caps.specs.declared.capability.Cap.TheVariants as c
 use Rattle.pc_tree.specs.Tree as t
 use Rattle.pc_tree.specs.declared.kinds.Op.TheVariants as o
@@ -23,14 +22,6 @@ escaped b =
     else b ∷ []))))))
 
 -- ---- capabilities, operators and types
-
-abbrev pub cap_text : Cap → List ℕ
-cap_text c.Iso = codes "iso"
-cap_text c.Trn = codes "trn"
-cap_text c.Ref = codes "ref"
-cap_text c.Val = codes "val"
-cap_text c.Box = codes "box"
-cap_text c.Tag = codes "tag"
 
 abbrev pub op_text : Op → List ℕ
 op_text o.Add = codes "+"
@@ -52,7 +43,7 @@ op_text o.Isnt = codes "isnt"
 
 -- ` cap`, if one is written
 abbrev pub printed_cap : Option Cap → List ℕ
-printed_cap cap = option_map_or (λ k. codes " " ++ cap_text k) cap []
+printed_cap cap = option_map_or (λ k. codes " " ++ cap_name k) cap []
 
 -- `T cap^`
 abbrev pub printed_type_ref : TypeRef → List ℕ

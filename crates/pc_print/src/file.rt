@@ -8,7 +8,7 @@ ghost use Rattle.pc_tree.specs.View.{entity_view, file_view};
 
 use crate::leaves::{push_between, push_cap};
 use crate::member::{push_fields, push_methods};
-use pc_caps::List;
+use pc_base::List;
 use pc_tree::{Entity, EntityKind, File, Name};
 use std::alloc::{AllocError, Global};
 

@@ -5,7 +5,8 @@ ghost use Rattle.pc_referee.specs.Asked.{pairs_after};
 
 use crate::Referee;
 use pc_ann::Note;
-use pc_caps::{Cap, List};
+use pc_base::List;
+use pc_caps::Cap;
 use pc_core::Core;
 use pc_rules::holds;
 use std::alloc::{AllocError, Global};

@@ -1,9 +1,6 @@
 -- The place after one more byte.
-use Rattle.std.proofs.Common.{◌≡◌, ◌<◌, ◌≤◌, ℕ, Bool, true, false, cond, not, List, [], ◌∷◌, ◌++◌, refl, take, length, get_or, reverse, ◌+◌, sym, ap, ◌∙◌, arith}
-use Rattle.std.specs.Prelude.{count_by}
-use Rattle.std.specs.List.{prefix_len}
-use Rattle.std.proofs.lemmas.List.{take_more, reverse-append}
-use Rattle.std.proofs.lemmas.List.Sums.{sum_by_push}
+use Rattle.std.proofs.{Common.{◌≡◌, ◌<◌, ◌≤◌, ℕ, Bool, true, false, cond, not, List, [], ◌∷◌, ◌++◌, refl, take, length, get_or, reverse, ◌+◌, sym, ap, ◌∙◌, arith}, lemmas.List.{take_more, reverse-append}, lemmas.List.Sums.sum_by_push}
+use Rattle.std.specs.{Prelude.count_by, List.prefix_len}
 use Rattle.pc_refusal_lines.specs.Lines.{is_line_end, is_in_line, line_number, column_number}
 
 -- The place after the first bytes of a text, with bounds.

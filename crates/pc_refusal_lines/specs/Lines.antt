@@ -1,7 +1,6 @@
 -- The lines on err, the first line of `make`, and places in a text.
-use Rattle.std.specs.Prelude.{ℕ, ◌++◌, codes, decimal, ◌+◌, ◌==◌, Bool, not, List, reverse, count_by, take}
-use Rattle.std.specs.List.{prefix_len}
-use Rattle.pc_lists.specs.Lists.{Text, line_end}
+use Rattle.std.specs.{Prelude.{ℕ, ◌++◌, codes, decimal, ◌+◌, ◌==◌, Bool, not, List, reverse, count_by, take}, List.prefix_len}
+use Rattle.pc_base.specs.Lists.{Text, line_end}
 
 abbrev pub usage_line : Text
 usage_line = codes "usage: rcap COMMAND ARGUMENT ..." ++ line_end

@@ -1,16 +1,9 @@
 -- From how a command ended and how its line was written to the program's answer.
-use Rattle.std.proofs.Common.{ℕ, [], Option, Some, None, inl, inr, Ok, Err, length, sym, ◌∙◌}
-use Rattle.std.specs.Prelude.{Result}
-use Rattle.std.proofs.Math.Seq.{take-length}
-use Rattle.std.specs.Io.KnownBytes.{Appends, Keeps}
-use Rattle.pc_lists.specs.Lists.{Text}
+use Rattle.std.proofs.{Common.{ℕ, [], Option, Some, None, inl, inr, Ok, Err, length, sym, ◌∙◌}, Math.Seq.take-length}
+use Rattle.std.specs.{Prelude.Result, Io.KnownBytes.{Appends, Keeps}}
+use Rattle.pc_base.specs.Lists.{Text}
 use Rattle.pc_io.specs.Sink.{Change}
-use Rattle.pc_refusals.specs.Verdict.{Answer, Completes, Verdict}
-use Rattle.pc_refusals.specs.Verdict.Answer.{given, file, out_failed, err_failed, file_err_failed, no_memory}
-use Rattle.pc_refusals.specs.Inner.Answering.{EndsCommand, WritesVerdict}
-use Rattle.pc_refusals.specs.Inner.Finishing.{Finishes, LineEnds}
-use Rattle.pc_refusals.specs.declared.stop.Stop.{Stop}
-use Rattle.pc_refusals.specs.declared.stop.Stop.TheVariants.{Refused, File, Sink, Memory}
+use Rattle.pc_refusals.specs.{Verdict.{Answer, Completes, Verdict}, Verdict.Answer.{given, file, out_failed, err_failed, file_err_failed, no_memory}, Inner.Answering.{EndsCommand, WritesVerdict}, Inner.Finishing.{Finishes, LineEnds}, declared.stop.Stop.Stop, declared.stop.Stop.TheVariants.{Refused, File, Sink, Memory}}
 use Rattle.pc_refusals.proofs.Ending.{unchanged}
 
 -- what was kept had nothing added

@@ -1,20 +1,10 @@
 -- From the result of reading a derivation to its stages.
 use Rattle.std.proofs.Common.{◌≡◌, ◌≤◌, length, Ok, refl}
 use Rattle.pc_ann.specs.declared.annotation.Ann.{Ann}
-use Rattle.pc_deriv.specs.Text.{IsText}
-use Rattle.pc_deriv.specs.Parts.{derivation_slot_limit, derivation_node_limit}
-use Rattle.pc_deriv.specs.Parts.{RefusesDerivation}
-use Rattle.pc_deriv.specs.declared.fault.DerivFault.{DerivFault}
+use Rattle.pc_deriv.specs.{Text.IsText, Parts.{derivation_slot_limit, derivation_node_limit, RefusesDerivation}, declared.fault.DerivFault.DerivFault}
 use Rattle.pc_deriv.specs.declared.fault.DerivFault.TheVariants as deriv
-use Rattle.pc_lists.specs.Lists.{Text}
-use Rattle.pc_refusals.specs.Source.After.{goes}
-use Rattle.pc_refusals.specs.Derivation.{Deriving, DerivationStage}
-use Rattle.pc_refusals.specs.Derivation.Deriving.{reads, garbled}
-use Rattle.pc_refusals.specs.Inner.Refusals.{IsTextStop}
-use Rattle.pc_refusals.specs.Inner.Stages.{StageStops}
-use Rattle.pc_refusals.specs.Verdict.{Reading, whole}
-use Rattle.pc_refusals.specs.Source.Length.{fits}
-use Rattle.pc_refusals.specs.declared.stop.Stop.{Stop}
+use Rattle.pc_base.specs.Lists.{Text}
+use Rattle.pc_refusals.specs.{Source.After.goes, Derivation.{Deriving, DerivationStage}, Derivation.Deriving.{reads, garbled}, Inner.Refusals.IsTextStop, Inner.Stages.StageStops, Verdict.{Reading, whole}, Source.Length.fits, declared.stop.Stop.Stop}
 use Rattle.pc_refusals.proofs.Stops.{memory_stops, refusal_stops}
 
 -- if the reading of the text stops

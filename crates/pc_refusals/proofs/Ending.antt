@@ -1,18 +1,9 @@
 -- From the results of a command's parts to how the command ends, whatever the command.
 use Rattle.std.proofs.Common.{◌≡◌, ℕ, [], Option, Some, None, refl, inl, inr, Ok, Err, append-nil, sym, subst}
-use Rattle.std.specs.Prelude.{Result}
-use Rattle.std.specs.Io.KnownBytes.{Appends, Keeps}
-use Rattle.pc_lists.specs.Lists.{Text}
+use Rattle.std.specs.{Prelude.Result, Io.KnownBytes.{Appends, Keeps}}
+use Rattle.pc_base.specs.Lists.{Text}
 use Rattle.pc_io.specs.Sink.{Change}
-use Rattle.pc_refusals.specs.Source.{FromFile, FilePasses}
-use Rattle.pc_refusals.specs.Source.FromFile.{refuses, goes_on}
-use Rattle.pc_refusals.specs.Inner.Answering.{AnswerStops, AnswersText, CommandStops, EndsCommand, Puts}
-use Rattle.pc_refusals.specs.Inner.Refusals.{IsRefusal}
-use Rattle.pc_refusals.specs.Inner.Stages.{PartStops, PartGives, StageEnds, StageStops, StageWrote}
-use Rattle.pc_refusals.specs.Inner.TwoFiles.{BothGive, OneStops}
-use Rattle.pc_refusals.specs.Verdict.{Reading, Named, FailedAt, EndsAs, EndsWith, Verdict, refused, done}
-use Rattle.pc_refusals.specs.declared.stop.Stop.{Stop}
-use Rattle.pc_refusals.specs.declared.stop.Stop.TheVariants.{Refused, File, Sink, Memory}
+use Rattle.pc_refusals.specs.{Source.{FromFile, FilePasses}, Source.FromFile.{refuses, goes_on}, Inner.Answering.{AnswerStops, AnswersText, CommandStops, EndsCommand, Puts}, Inner.Refusals.IsRefusal, Inner.Stages.{PartStops, PartGives, StageEnds, StageStops, StageWrote}, Inner.TwoFiles.{BothGive, OneStops}, Verdict.{Reading, Named, FailedAt, EndsAs, EndsWith, Verdict, refused, done}, declared.stop.Stop.Stop, declared.stop.Stop.TheVariants.{Refused, File, Sink, Memory}}
 
 -- ---- what is as before
 

@@ -3,29 +3,14 @@ use Rattle.std.proofs.Common.{◌≡◌, ◌≤◌, ℕ, ◌++◌, Option, Some,
 use Rattle.std.specs.Prelude.{Result}
 use Rattle.pc_ann.specs.declared.annotation.Ann.{Ann}
 use Rattle.pc_core.specs.Formed.{Formed}
-use Rattle.pc_deriv.specs.Text.{derivation_limit, IsText}
+use Rattle.pc_deriv.specs.{Text.{derivation_limit, IsText}, Laws.as_read, declared.line.LineFault.LineFault}
 use Rattle.pc_valid.specs.Valid.{Valid}
-use Rattle.pc_deriv.specs.Laws.{as_read}
-use Rattle.pc_deriv.specs.declared.line.LineFault.{LineFault}
 use Rattle.pc_deriv.specs.declared.line.LineFault.TheVariants as line_fault
 use Rattle.pc_referee.specs.Asked.{Pairs}
-use Rattle.pc_feed.specs.declared.parts.DerivationFault.{DerivationFault}
+use Rattle.pc_feed.specs.{declared.parts.DerivationFault.DerivationFault, Laws.ValidAsksAll, Parts.{AsksNodes, FileJudged, ReadWhole}}
 use Rattle.pc_feed.specs.declared.parts.DerivationFault.TheVariants as spec
-use Rattle.pc_feed.specs.Laws.{ValidAsksAll}
-use Rattle.pc_feed.specs.Parts.{AsksNodes, FileJudged, ReadWhole}
-use Rattle.pc_lists.specs.Lists.{Text}
-use Rattle.pc_refusals.specs.Source.After.{stops, goes}
-use Rattle.pc_refusals.specs.Derivation.{DerivationStage, in_parts, text_status, AsksEach, JudgedFile}
-use Rattle.pc_refusals.specs.Derivation.Deriving.{reads, garbled}
-use Rattle.pc_refusals.specs.Derivation.Judging.{holds, fails}
-use Rattle.pc_refusals.specs.Inner.Derivations.{DerivationJudged, NotDone}
-use Rattle.pc_refusals.specs.Inner.Refusals.{IsDerivationStop}
-use Rattle.pc_refusals.specs.Inner.Stages.{PartGives}
-use Rattle.pc_refusals.specs.Verdict.{IsReadingOf, Named, longer, whole}
-use Rattle.pc_refusals.specs.Source.Length.{fits, is_longer}
-use Rattle.pc_refusals.specs.declared.source.Source.{Source}
-use Rattle.pc_refusals.specs.declared.stop.Stop.{Stop}
-use Rattle.pc_refusals.specs.declared.stop.Stop.TheVariants.{Refused, File, Sink, Memory}
+use Rattle.pc_base.specs.Lists.{Text}
+use Rattle.pc_refusals.specs.{Source.After.{stops, goes}, Derivation.{DerivationStage, in_parts, text_status, AsksEach, JudgedFile}, Derivation.Deriving.{reads, garbled}, Derivation.Judging.{holds, fails}, Inner.Derivations.{DerivationJudged, NotDone}, Inner.Refusals.IsDerivationStop, Inner.Stages.PartGives, Verdict.{IsReadingOf, Named, longer, whole}, Source.Length.{fits, is_longer}, declared.source.Source.Source, declared.stop.Stop.Stop, declared.stop.Stop.TheVariants.{Refused, File, Sink, Memory}}
 
 -- ---- the file of a derivation
 

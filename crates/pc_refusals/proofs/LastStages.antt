@@ -1,11 +1,8 @@
 -- What holds of a command's verdict, from what holds of its stages.
 use Rattle.std.proofs.Common.{◌≡◌, ◌⊎◌, ℕ, Ok, Err, inl, inr, sym, ap, ◌∙◌, subst}
 use Rattle.std.specs.Prelude.{Result}
-use Rattle.pc_lists.specs.Lists.{Text}
-use Rattle.pc_refusals.specs.Source.{FromFile}
-use Rattle.pc_refusals.specs.Ends.{HasOneEnd}
-use Rattle.pc_refusals.specs.Source.FromFile.{refuses, goes_on}
-use Rattle.pc_refusals.specs.Verdict.{Named, Reading, IsReadingOf, EndsAs, Verdict, done, ended}
+use Rattle.pc_base.specs.Lists.{Text}
+use Rattle.pc_refusals.specs.{Source.FromFile, Ends.HasOneEnd, Source.FromFile.{refuses, goes_on}, Verdict.{Named, Reading, IsReadingOf, EndsAs, Verdict, done, ended}}
 
 -- ---- a last stage
 

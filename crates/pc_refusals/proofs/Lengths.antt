@@ -1,27 +1,15 @@
 -- A derivation's text is within the limit of a derivation.
-use Rattle.std.proofs.Common.{◌≤◌, ◌<◌, ◌+◌, ◌*◌, ◌/◌, ◌%◌, ◌^◌, ℕ, zero, suc, length, List, [], ◌∷◌, ◌++◌, Option, Some, None, inl, inr, ap, arith, false}
-use Rattle.std.specs.Prelude.{codes, decimal}
-use Rattle.std.specs.List.{AllByRecursion}
-use Rattle.std.specs.Fmt.{digits, digit_glyph}
-use Rattle.std.proofs.lemmas.Bool.{cases_lt}
-use Rattle.std.proofs.Math.Nat.{mul-suc}
-use Rattle.std.proofs.lemmas.Fmt.{length-decimal-le, hex_one_digit}
-use Rattle.std.proofs.lemmas.List.{length-append}
-use Rattle.pc_caps.specs.declared.capability.Cap.{Cap}
+use Rattle.std.proofs.{Common.{◌≤◌, ◌<◌, ◌+◌, ◌*◌, ◌/◌, ◌%◌, ◌^◌, ℕ, zero, suc, length, List, [], ◌∷◌, ◌++◌, Option, Some, None, inl, inr, ap, arith, false}, lemmas.Bool.cases_lt, Math.Nat.mul-suc, lemmas.Fmt.{length-decimal-le, hex_one_digit}, lemmas.List.length-append}
+use Rattle.std.specs.{Prelude.{codes, decimal}, List.AllByRecursion, Fmt.{digits, digit_glyph}}
+use Rattle.pc_caps.specs.{declared.capability.Cap.Cap, declared.capability.Form.Form, Words.{cap_name, form_name}}
 use Rattle.pc_caps.specs.declared.capability.Cap.TheVariants as cap
-use Rattle.pc_caps.specs.declared.capability.Form.{Form}
 use Rattle.pc_caps.specs.declared.capability.Form.TheVariants as form
-use Rattle.pc_deriv.specs.Text.{derivation_limit, IsText, version_name, rule_name, cap_name, form_name, head_line, slot_line, type_text, mask_text, masks_text, note_line, shown_after, SlotFits, TypeFits, MaskFits, MasksFit, NoteFits}
-use Rattle.pc_deriv.specs.Parts.{each_line, blank}
+use Rattle.pc_deriv.specs.{Text.{derivation_limit, IsText, version_name, rule_name, head_line, slot_line, type_text, mask_text, masks_text, note_line, shown_after, SlotFits, TypeFits, MaskFits, MasksFit, NoteFits}, Parts.{each_line, blank}, declared.version.Version.Version}
 use Rattle.pc_masks.specs.declared.mask.Mask.{Mask}
-use Rattle.pc_ann.specs.declared.annotation.Note.{Note}
-use Rattle.pc_ann.specs.declared.annotation.Ann.{Ann}
-use Rattle.pc_ann.specs.declared.annotation.Rule.{Rule}
+use Rattle.pc_ann.specs.{declared.annotation.Note.Note, declared.annotation.Ann.Ann, declared.annotation.Rule.Rule}
 use Rattle.pc_ann.specs.declared.annotation.Rule.TheVariants as rule
-use Rattle.pc_deriv.proofs.Digits.{hex_step}
-use Rattle.pc_deriv.proofs.Shown.{shown_fits}
-use Rattle.pc_lists.specs.Lists.{line_end}
-use Rattle.pc_deriv.specs.declared.version.Version.{Version}
+use Rattle.pc_deriv.proofs.{Digits.hex_step, Shown.shown_fits}
+use Rattle.pc_base.specs.Lists.{line_end}
 use Rattle.pc_deriv.specs.declared.version.Version.TheVariants as version
 
 -- The parts of a line.

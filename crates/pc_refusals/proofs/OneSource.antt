@@ -2,33 +2,17 @@
 use Rattle.std.proofs.Common.{◌≡◌, ◌<◌, ℕ, List, Option, Some, None, ◌∷◌, Ok, Err, refl, sym, ◌∙◌, ap, subst, length, arith, true, false}
 use Rattle.std.specs.Prelude.{Result, IsSome, codes}
 use Rattle.pc_core.specs.CoreData.{CoreData}
-use Rattle.pc_core_relation.specs.Files.{IsCoreOf}
-use Rattle.pc_core_relation.specs.MemberFaults.{IsMemberFault}
-use Rattle.pc_core_relation.proofs.MemberFaults.{is_stop}
-use Rattle.pc_core_relation.proofs.Ones.{standing_cores_are_made, standing_cores_are_one}
+use Rattle.pc_core_relation.specs.{Files.IsCoreOf, MemberFaults.IsMemberFault}
+use Rattle.pc_core_relation.proofs.{MemberFaults.is_stop, Ones.{standing_cores_are_made, standing_cores_are_one}}
 use Rattle.pc_token.specs.declared.kinds.Token.{Token}
-use Rattle.pc_grammar.specs.FileAnswers.{spelled, unexpected, too_deep}
-use Rattle.pc_grammar.specs.Laws.{OneFileAnswer}
-use Rattle.pc_lex.specs.Laws.{OneList, NotBoth, OneFault}
-use Rattle.pc_lex.specs.declared.fault.LexFault.{LexFault}
-use Rattle.pc_names.specs.Faults.{IsNameFault, IsNotMemory}
-use Rattle.pc_names.specs.Laws.{NotBoth as NotBothNames, OneFault as OneNameFault}
-use Rattle.pc_names.specs.declared.fault.NameFault.{NameFault}
+use Rattle.pc_grammar.specs.{FileAnswers.{spelled, unexpected, too_deep}, Laws.OneFileAnswer}
+use Rattle.pc_lex.specs.{Laws.{OneList, NotBoth, OneFault}, declared.fault.LexFault.LexFault}
+use Rattle.pc_names.specs.{Faults.{IsNameFault, IsNotMemory}, Laws.{NotBoth as NotBothNames, OneFault as OneNameFault}, declared.fault.NameFault.NameFault}
 use Rattle.pc_file_spec.specs.Laws.{OneCore, NotBoth as NotBothMembers, OneFault as OneMemberFault}
 use Rattle.pc_tree.specs.Tree as t
-use Rattle.pc_lists.specs.Lists.{Text}
-use Rattle.pc_refusals.specs.Source.{After, FromFile, FileStage, SyntaxStage, Length, Lexing, Parsing, Elaborating, TreeStage, CoreStage, TextStage, SourceStage, source_limit}
-use Rattle.pc_refusals.specs.Ends.{HasOneEnd}
-use Rattle.pc_refusals.specs.Source.After.{stops, goes}
-use Rattle.pc_refusals.specs.FaultLines.{fault_status, fault_line, name_status, name_line}
-use Rattle.pc_refusals.specs.Source.FromFile.{refuses, goes_on}
-use Rattle.pc_refusals.specs.Verdict.{Named, Reading, whole, longer, IsReading, Verdict, refused}
+use Rattle.pc_base.specs.Lists.{Text}
+use Rattle.pc_refusals.specs.{Source.{After, FromFile, FileStage, SyntaxStage, Length, Lexing, Parsing, Elaborating, TreeStage, CoreStage, TextStage, SourceStage, source_limit}, Ends.HasOneEnd, Source.After.{stops, goes}, FaultLines.{fault_status, fault_line, name_status, name_line}, Source.FromFile.{refuses, goes_on}, Verdict.{Named, Reading, whole, longer, IsReading, Verdict, refused}, Source.Length.{fits, is_longer}, Source.Lexing.{lexed, faulty}, Source.Parsing.{parsed, astray, nested}, Source.Elaborating.{elaborated, misnamed, misused}, Source.TextStage.{has_core, has_none}}
 use Rattle.pc_refusal_lines.specs.Lines.{offset_line}
-use Rattle.pc_refusals.specs.Source.Length.{fits, is_longer}
-use Rattle.pc_refusals.specs.Source.Lexing.{lexed, faulty}
-use Rattle.pc_refusals.specs.Source.Parsing.{parsed, astray, nested}
-use Rattle.pc_refusals.specs.Source.Elaborating.{elaborated, misnamed, misused}
-use Rattle.pc_refusals.specs.Source.TextStage.{has_core, has_none}
 
 -- What the stages rest on.
 pub record SourceLaws : Type 0 where

@@ -1,16 +1,9 @@
 -- From the result of reading one file to its stages, whatever they are.
 use Rattle.std.proofs.Common.{◌≡◌, ◌≤◌, ◌<◌, ℕ, Option, Ok, Err, subst, arith}
 use Rattle.std.specs.Prelude.{Result}
-use Rattle.pc_lists.specs.Lists.{Text}
-use Rattle.pc_refusals.specs.Source.{After, Length}
-use Rattle.pc_refusals.specs.Source.After.{stops, goes}
-use Rattle.pc_refusals.specs.Inner.Reading.{NotRead}
-use Rattle.pc_refusals.specs.Inner.Stages.{PartStops, PartGives, PartEnds, StageEnds}
+use Rattle.pc_base.specs.Lists.{Text}
+use Rattle.pc_refusals.specs.{Source.{After, Length}, Source.After.{stops, goes}, Inner.Reading.NotRead, Inner.Stages.{PartStops, PartGives, PartEnds, StageEnds}, Verdict.{Reading, whole, longer, Named, IsReadingOf, IsReading, Verdict, refused}, Source.Length.fits, declared.stop.Stop.Stop, declared.stop.Stop.TheVariants.{Refused, File, Sink, Memory}}
 use Rattle.pc_refusal_lines.specs.Lines.{longer_line}
-use Rattle.pc_refusals.specs.Verdict.{Reading, whole, longer, Named, IsReadingOf, IsReading, Verdict, refused}
-use Rattle.pc_refusals.specs.Source.Length.{fits}
-use Rattle.pc_refusals.specs.declared.stop.Stop.{Stop}
-use Rattle.pc_refusals.specs.declared.stop.Stop.TheVariants.{Refused, File, Sink, Memory}
 
 module _ {T : Type 0} (limit : ℕ) (Stage : Reading → Result T Verdict → Type 0) where
   -- a file that was not read

@@ -1,13 +1,8 @@
 -- From the result of reading a schedule to its stages.
 use Rattle.std.proofs.Common.{◌≡◌, ◌≤◌, List, Ok, refl}
-use Rattle.pc_sched.specs.Schedules.{turn_limit, TurnList, total}
-use Rattle.pc_sched.specs.declared.turns.Turn.{Turn}
-use Rattle.pc_lists.specs.Lists.{Text}
-use Rattle.pc_refusals.specs.Source.After.{goes}
-use Rattle.pc_refusals.specs.Verdict.{Reading, whole}
-use Rattle.pc_refusals.specs.Source.{ScheduleStage}
-use Rattle.pc_refusals.specs.Source.Scheduling.{scheduled}
-use Rattle.pc_refusals.specs.Source.Length.{fits}
+use Rattle.pc_sched.specs.{Schedules.{turn_limit, TurnList, total}, declared.turns.Turn.Turn}
+use Rattle.pc_base.specs.Lists.{Text}
+use Rattle.pc_refusals.specs.{Source.After.goes, Verdict.{Reading, whole}, Source.ScheduleStage, Source.Scheduling.scheduled, Source.Length.fits}
 
 -- The schedule was read whole, and its words are these turns.
 pub schedule_says : {name : Text} {r : Reading} {turns : List Turn} → ScheduleStage name r (Ok turns) → (bytes : Text) × (r ≡ whole bytes) × TurnList bytes turns

@@ -3,24 +3,16 @@ use Rattle.std.proofs.Common.{◌≡◌, ℕ, List, Ok, Err, sym, subst}
 use Rattle.std.specs.Prelude.{Result, codes}
 use Rattle.pc_token.specs.declared.kinds.Token.{Token}
 use Rattle.pc_tree.specs.Tree as t
-use Rattle.pc_lex.specs.Refusals.{RefusesTokens}
-use Rattle.pc_lex.specs.declared.fault.LexFault.{LexFault}
+use Rattle.pc_lex.specs.{Refusals.RefusesTokens, declared.fault.LexFault.LexFault}
 use Rattle.pc_lex.specs.declared.fault.LexFault.TheVariants as fault
 use Rattle.pc_grammar.specs.FileAnswers.{IsFileAnswer, unexpected, too_deep}
 use Rattle.pc_expr.specs.Gives.{EndsWithEnd}
 use Rattle.pc_expr.specs.declared.fault.ParseFault.TheVariants as syntax
 use Rattle.pc_parse.specs.Answers.{RefusesFile as RefusesTree}
 use Rattle.pc_text_order.specs.Laws.{TokensEnd}
-use Rattle.pc_lists.specs.Lists.{Text}
-use Rattle.pc_refusals.specs.Source.After.{stops, goes}
-use Rattle.pc_refusals.specs.Inner.Refusals.{IsLexStop, IsRefusal}
-use Rattle.pc_refusals.specs.Inner.Stages.{StageStops, StageEndsAs}
+use Rattle.pc_base.specs.Lists.{Text}
+use Rattle.pc_refusals.specs.{Source.After.{stops, goes}, Inner.Refusals.{IsLexStop, IsRefusal}, Inner.Stages.{StageStops, StageEndsAs}, Source.{Lexing, Parsing, SyntaxStage}, Source.Lexing.{lexed, faulty}, Source.Parsing.{astray, nested}, Verdict.refused, declared.stop.Stop.Stop}
 use Rattle.pc_refusal_lines.specs.Lines.{offset_line}
-use Rattle.pc_refusals.specs.Source.{Lexing, Parsing, SyntaxStage}
-use Rattle.pc_refusals.specs.Source.Lexing.{lexed, faulty}
-use Rattle.pc_refusals.specs.Source.Parsing.{astray, nested}
-use Rattle.pc_refusals.specs.Verdict.{refused}
-use Rattle.pc_refusals.specs.declared.stop.Stop.{Stop}
 use Rattle.pc_refusals.proofs.Stops.{memory_stops, refusal_stops, stops_as}
 
 -- a text that has no tokens

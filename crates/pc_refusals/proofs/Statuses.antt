@@ -1,29 +1,13 @@
 -- The ranges of the statuses of refusals.
 use Rattle.std.proofs.Common.{◌≡◌, ◌≤◌, ◌⊎◌, ℕ, Err, inl, inr, refl, arith}
-use Rattle.pc_lex.specs.Faults.{FirstLexFault}
-use Rattle.pc_lex.specs.declared.fault.LexFault.{LexFault}
+use Rattle.pc_lex.specs.{Faults.FirstLexFault, declared.fault.LexFault.LexFault}
 use Rattle.pc_lex.specs.declared.fault.LexFault.TheVariants as fault
-use Rattle.pc_deriv.specs.Text.{IsFault}
-use Rattle.pc_deriv.specs.declared.fault.DerivFault.{DerivFault}
+use Rattle.pc_deriv.specs.{Text.IsFault, declared.fault.DerivFault.DerivFault}
 use Rattle.pc_deriv.specs.declared.fault.DerivFault.TheVariants as deriv
-use Rattle.pc_names.specs.Faults.{IsNotMemory}
-use Rattle.pc_names.specs.declared.fault.NameFault.{NameFault}
+use Rattle.pc_names.specs.{Faults.IsNotMemory, declared.fault.NameFault.NameFault}
 use Rattle.pc_names.specs.declared.fault.NameFault.TheVariants as names
-use Rattle.pc_lists.specs.Lists.{Text}
-use Rattle.pc_refusals.specs.Source.{AcceptedStage, Typing, ScheduleStage, CoreStage, FileStage, SourceStage}
-use Rattle.pc_refusals.specs.Source.Typing.{declared, no_rule, unset}
-use Rattle.pc_refusals.specs.Source.After.{stops, goes}
-use Rattle.pc_refusals.specs.Derivation.{DerivationStage, text_status}
-use Rattle.pc_refusals.specs.Derivation.Deriving.{garbled}
-use Rattle.pc_refusals.specs.FaultLines.{fault_status, name_status}
-use Rattle.pc_refusals.specs.Verdict.{Reading, Verdict, IsAccepting}
-use Rattle.pc_refusals.specs.Source.Scheduling.{bad_word, too_many}
-use Rattle.pc_refusals.specs.Source.Length.{fits, is_longer}
-use Rattle.pc_refusals.specs.Source.Lexing.{faulty}
-use Rattle.pc_refusals.specs.Source.Parsing.{astray, nested}
-use Rattle.pc_refusals.specs.Source.Elaborating.{misnamed, misused}
-use Rattle.pc_refusals.specs.Source.TextStage.{has_none}
-use Rattle.pc_refusals.specs.declared.source.Source.{Source}
+use Rattle.pc_base.specs.Lists.{Text}
+use Rattle.pc_refusals.specs.{Source.{AcceptedStage, Typing, ScheduleStage, CoreStage, FileStage, SourceStage}, Source.Typing.{declared, no_rule, unset}, Source.After.{stops, goes}, Derivation.{DerivationStage, text_status}, Derivation.Deriving.garbled, FaultLines.{fault_status, name_status}, Verdict.{Reading, Verdict, IsAccepting}, Source.Scheduling.{bad_word, too_many}, Source.Length.{fits, is_longer}, Source.Lexing.faulty, Source.Parsing.{astray, nested}, Source.Elaborating.{misnamed, misused}, Source.TextStage.has_none, declared.source.Source.Source}
 
 -- Neither that of a derivation that is not there, nor of a command that went through.
 abbrev pub IsOther : ℕ → Type 0

@@ -1,16 +1,10 @@
 -- From a refusal to the stage that stops, whatever the stage.
 use Rattle.std.proofs.Common.{◌≡◌, ℕ, Err, sym, subst}
 use Rattle.std.specs.Prelude.{Result}
-use Rattle.pc_names.specs.Faults.{IsNotMemory}
-use Rattle.pc_names.specs.declared.fault.NameFault.{NameFault}
+use Rattle.pc_names.specs.{Faults.IsNotMemory, declared.fault.NameFault.NameFault}
 use Rattle.pc_names.specs.declared.fault.NameFault.TheVariants as names
-use Rattle.pc_lists.specs.Lists.{Text}
-use Rattle.pc_refusals.specs.Inner.Refusals.{IsNameStop, IsRefusal}
-use Rattle.pc_refusals.specs.Inner.Stages.{StageStops}
-use Rattle.pc_refusals.specs.FaultLines.{name_line, name_status}
-use Rattle.pc_refusals.specs.Verdict.{Verdict, refused}
-use Rattle.pc_refusals.specs.declared.stop.Stop.{Stop}
-use Rattle.pc_refusals.specs.declared.stop.Stop.TheVariants.{Refused, File, Sink, Memory}
+use Rattle.pc_base.specs.Lists.{Text}
+use Rattle.pc_refusals.specs.{Inner.Refusals.{IsNameStop, IsRefusal}, Inner.Stages.StageStops, FaultLines.{name_line, name_status}, Verdict.{Verdict, refused}, declared.stop.Stop.Stop, declared.stop.Stop.TheVariants.{Refused, File, Sink, Memory}}
 
 -- by its own refusal
 pub refusal_stops : {T : Type 0} (Stage : Result T Verdict → Type 0) (wanted : ℕ) (text : Text) (s : Stop) → Stage (Err (refused wanted text)) → IsRefusal wanted text s → StageStops Stage s

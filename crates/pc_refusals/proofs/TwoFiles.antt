@@ -1,11 +1,8 @@
 -- Two files that are read one after another.
 use Rattle.std.proofs.Common.{◌≡◌, ◌∙◌, ◌≤◌, ℕ, Option, Ok, inr, arith}
 use Rattle.std.specs.Prelude.{Result}
-use Rattle.pc_lists.specs.Lists.{Text}
-use Rattle.pc_refusals.specs.Inner.Stages.{PartGives, PartStops}
-use Rattle.pc_refusals.specs.Inner.TwoFiles.{BothGive, OneStops}
-use Rattle.pc_refusals.specs.Verdict.{Files, Named, Reading, file_at, files_change, longer, named, Verdict}
-use Rattle.pc_refusals.specs.declared.stop.Stop.{Stop}
+use Rattle.pc_base.specs.Lists.{Text}
+use Rattle.pc_refusals.specs.{Inner.Stages.{PartGives, PartStops}, Inner.TwoFiles.{BothGive, OneStops}, Verdict.{Files, Named, Reading, file_at, files_change, longer, named, Verdict}, declared.stop.Stop.Stop}
 use Rattle.pc_refusals.proofs.Parts.{gives_from_start, gives_later, stops_from_start}
 
 -- The first file, a, gave x. Then the second, b, was read.

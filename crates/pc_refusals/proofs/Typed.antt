@@ -1,22 +1,12 @@
 -- From the result of the inference to the stage of a core's annotation.
 use Rattle.std.proofs.Common.{Option, Err, sym, subst}
 use Rattle.std.specs.Prelude.{codes}
-use Rattle.pc_check.specs.Faults.{RefusesCore}
-use Rattle.pc_check.specs.declared.fault.CheckFault.{CheckFault}
+use Rattle.pc_check.specs.{Faults.RefusesCore, declared.fault.CheckFault.CheckFault}
 use Rattle.pc_check.specs.declared.fault.CheckFault.TheVariants as fault
-use Rattle.pc_core.specs.declared.declarations.Method.{Method}
-use Rattle.pc_core.specs.declared.nodes.Node.{Node}
-use Rattle.pc_lists.specs.Lists.{Text}
-use Rattle.pc_refusals.specs.Source.{Typing}
-use Rattle.pc_refusals.specs.Source.Typing.{declared, no_rule, unset}
-use Rattle.pc_refusals.specs.Parts.{method_start}
-use Rattle.pc_refusals.specs.Parts.{node_start}
-use Rattle.pc_refusals.specs.Inner.Refusals.{IsCoreStop}
-use Rattle.pc_refusals.specs.Inner.Stages.{StageStops}
+use Rattle.pc_core.specs.{declared.declarations.Method.Method, declared.nodes.Node.Node}
+use Rattle.pc_base.specs.Lists.{Text}
+use Rattle.pc_refusals.specs.{Source.Typing, Source.Typing.{declared, no_rule, unset}, Parts.{method_start, node_start}, Inner.Refusals.IsCoreStop, Inner.Stages.StageStops, Verdict.refused, declared.source.Source.Source, declared.stop.Stop.Stop}
 use Rattle.pc_refusal_lines.specs.Lines.{offset_line}
-use Rattle.pc_refusals.specs.Verdict.{refused}
-use Rattle.pc_refusals.specs.declared.source.Source.{Source}
-use Rattle.pc_refusals.specs.declared.stop.Stop.{Stop}
 use Rattle.pc_refusals.proofs.Stops.{memory_stops, refusal_stops}
 
 -- if the inference stops

@@ -1,11 +1,11 @@
 -- The stages of a derivation: its length, its text, and whether it is valid for a source.
 use Rattle.std.specs.Prelude.{ℕ, ◌+◌, Result, Ok, Err, codes, ◌≡◌, ◌++◌, Option, Some, None, IfSome}
 use Rattle.pc_ann.specs.declared.annotation.Ann.{Ann}
-use Rattle.pc_deriv.specs.{Text.derivation_limit, Text.IsText, Text.IsFault, declared.fault.DerivFault.DerivFault}
+use Rattle.pc_deriv.specs.{Text.{derivation_limit, IsText, IsFault}, declared.fault.DerivFault.DerivFault}
 use Rattle.pc_valid.specs.Valid.{Valid}
 use Rattle.pc_judge.specs.{Faults.FirstAnnotationFault, declared.faults.JudgeFault.JudgeFault}
-use Rattle.pc_lists.specs.Lists.{Text}
-use Rattle.pc_refusals.specs.{Source.After, Source.Length, FaultLines.decl_offset, FaultLines.decl_text, Verdict.Named, Verdict.Reading, Verdict.Verdict, Verdict.refused, declared.source.Source.Source}
+use Rattle.pc_base.specs.Lists.{Text}
+use Rattle.pc_refusals.specs.{Source.{After, Length}, FaultLines.{decl_offset, decl_text}, Verdict.{Named, Reading, Verdict, refused}, declared.source.Source.Source}
 use Rattle.pc_refusal_lines.specs.Lines.{bad_line, many_line, shape_line, slot_refusal_line, node_refusal_line, unset_line, offset_line}
 use Rattle.pc_core.specs.CoreData.{CoreData}
 use Rattle.pc_referee.specs.Asked.{Pairs}

@@ -1,12 +1,11 @@
 -- The refusals of a source, and what is wrong with a core that has no derivation.
-use Rattle.std.specs.Prelude.{ℕ, codes, slice_get}
+use Rattle.std.specs.{Prelude.{ℕ, codes, slice_get}, Option.option_map_or}
 use Rattle.pc_lex.specs.declared.fault.LexFault.{LexFault}
-use Rattle.pc_lists.specs.Lists.{Text, ◌>>=◌}
+use Rattle.pc_base.specs.Lists.{Text, ◌>>=◌}
 use Rattle.pc_refusal_lines.specs.Lines.{offset_line, no_main_line}
 use Rattle.pc_names.specs.{declared.fault.NameFault.NameFault, declared.fault.Which.Which}
 use Rattle.pc_core.specs.{declared.declarations.EntityDef.EntityDef, declared.declarations.Method.Method, declared.declarations.ParamInfo.ParamInfo, CoreData.CoreData}
 use Rattle.pc_sub.specs.declared.faults.DeclFault.{DeclFault}
-use Rattle.std.specs.Option.{option_map_or}
 use Rattle.pc_lex.specs.declared.fault.LexFault.TheVariants as lexical
 use Rattle.pc_names.specs.declared.fault.NameFault.TheVariants as fault
 use Rattle.pc_names.specs.declared.fault.Which.TheVariants as which

@@ -1,6 +1,6 @@
 -- Files that are known, and files whose reading did not fail.
 use Rattle.std.specs.Prelude.{◌≡◌, List, [], ◌∷◌, Option, IsSome}
-use Rattle.pc_lists.specs.Lists.{Text}
+use Rattle.pc_base.specs.Lists.{Text}
 use Rattle.pc_refusals.specs.Verdict.{Files}
 
 -- The bytes of all of these are known.

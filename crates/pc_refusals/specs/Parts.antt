@@ -1,7 +1,6 @@
 -- Further words on stages and files, for contracts of code.
-use Rattle.std.specs.Prelude.{ℕ, Option, slice_get}
-use Rattle.std.specs.Option.{option_map_or}
-use Rattle.pc_lists.specs.Lists.{◌>>=◌}
+use Rattle.std.specs.{Prelude.{ℕ, Option, slice_get}, Option.option_map_or}
+use Rattle.pc_base.specs.Lists.{◌>>=◌}
 use Rattle.pc_core.specs.{declared.declarations.EntityDef.EntityDef, declared.declarations.Method.Method, declared.declarations.ParamInfo.ParamInfo, declared.nodes.Node.Node}
 
 -- Where a part of the core starts in the source. What does not exist starts at 0.

@@ -1,18 +1,18 @@
 -- The stages of a source, which come first in every command that reads one.
 use Rattle.std.specs.Prelude.{◌≡◌, Result, Ok, Err, ℕ, ◌≤◌, ◌∷◌, List, length, codes, ◌⊎◌}
-use Rattle.pc_refusals.specs.{Verdict.Verdict, Verdict.Reading, Verdict.whole, Verdict.longer, Verdict.refused, Verdict.FailedAt, Verdict.Named, Verdict.IsReadingOf, FaultLines.fault_status, FaultLines.fault_line, FaultLines.name_status, FaultLines.name_line, FaultLines.decl_offset, FaultLines.decl_text, declared.source.Source.Source, declared.typing.Accepted.Accepted}
+use Rattle.pc_refusals.specs.{Verdict.{Verdict, Reading, whole, longer, refused, FailedAt, Named, IsReadingOf}, FaultLines.{fault_status, fault_line, name_status, name_line, decl_offset, decl_text}, declared.source.Source.Source, declared.typing.Accepted.Accepted}
 use Rattle.pc_token.specs.declared.kinds.Token.{Token}
 use Rattle.pc_grammar.specs.FileAnswers.{IsFileAnswer, spelled, unexpected, too_deep}
-use Rattle.pc_lex.specs.{Pieces.TokenList, Pieces.bytes_limit, Faults.FirstLexFault, declared.fault.LexFault.LexFault}
+use Rattle.pc_lex.specs.{Pieces.{TokenList, bytes_limit}, Faults.FirstLexFault, declared.fault.LexFault.LexFault}
 use Rattle.pc_core.specs.CoreData.{CoreData}
-use Rattle.pc_names.specs.{Faults.IsNotMemory, Faults.IsNameFault, declared.fault.NameFault.NameFault}
+use Rattle.pc_names.specs.{Faults.{IsNotMemory, IsNameFault}, declared.fault.NameFault.NameFault}
 use Rattle.pc_core_relation.specs.{Files.IsCoreOf, MemberFaults.IsMemberFault}
-use Rattle.pc_lists.specs.Lists.{Text}
+use Rattle.pc_base.specs.Lists.{Text}
 use Rattle.pc_refusal_lines.specs.Lines.{offset_line, longer_line}
-use Rattle.pc_sched.specs.{Schedules.schedule_limit, Schedules.TurnList, Schedules.FirstScheduleFault, declared.fault.SchedFault.TheVariants.BadWord, declared.fault.SchedFault.TheVariants.TooMany, declared.turns.Turn.Turn}
+use Rattle.pc_sched.specs.{Schedules.{schedule_limit, TurnList, FirstScheduleFault}, declared.fault.SchedFault.TheVariants.{BadWord, TooMany}, declared.turns.Turn.Turn}
 use Rattle.pc_ann.specs.declared.annotation.Ann.{Ann}
 use Rattle.pc_sub.specs.{FirstFault.IsFirstDeclarationFault, declared.faults.DeclFault.DeclFault}
-use Rattle.pc_valid.specs.{Valid.Valid, NoRule.NoRule, NoRule.Unset}
+use Rattle.pc_valid.specs.{Valid.Valid, NoRule.{NoRule, Unset}}
 use Rattle.pc_tree.specs.Tree as t
 
 -- Each gives a value for the next, or the verdict of its refusal. The first refusal ends them.

@@ -1,7 +1,6 @@
 -- What a command answers: its verdict, what out has of it if the command did not finish, and the answer of the program.
-use Rattle.std.specs.Prelude.{ℕ, ◌≡◌, ◌<◌, ◌≤◌, List, [], length, Option, Some, IfSome, ◌⊎◌, ◌++◌, Result, Ok, Err}
-use Rattle.std.specs.Io.KnownBytes.{Appends, Keeps}
-use Rattle.pc_lists.specs.Lists.{Text}
+use Rattle.std.specs.{Prelude.{ℕ, ◌≡◌, ◌<◌, ◌≤◌, List, [], length, Option, Some, IfSome, ◌⊎◌, ◌++◌, Result, Ok, Err}, Io.KnownBytes.{Appends, Keeps}}
+use Rattle.pc_base.specs.Lists.{Text}
 use Rattle.pc_io.specs.Sink.{Change, GrowsByPrefix, HasRisen}
 use Rattle.pc_refusal_lines.specs.Lines.{unread_line}
 

@@ -1,6 +1,6 @@
 //! Refusals with their line, and those that name a byte of a file.
 ghost use Rattle.std.specs.Prelude.{◌≡◌, IfOk};
-ghost use Rattle.pc_lists.specs.Lists.{Text};
+ghost use Rattle.pc_base.specs.Lists.{Text};
 ghost use Rattle.pc_refusals.specs.Inner.Refusals.{IsRefusal};
 ghost use Rattle.pc_refusal_lines.specs.Lines.{offset_line};
 

@@ -8,7 +8,7 @@ ghost use Rattle.pc_refusals.specs.Inner.Stages.{PartEnds, StageEnds};
 use crate::reading::read_file;
 use crate::refusal::refuse_at;
 use crate::stop::Stop;
-use pc_caps::List;
+use pc_base::List;
 use pc_io::Files;
 use pc_sched::{SchedFault, Turn, read};
 use std::alloc::Global;

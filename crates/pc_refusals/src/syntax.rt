@@ -9,7 +9,7 @@ ghost use Rattle.pc_refusals.specs.Source.{Lexing, Parsing, SyntaxStage};
 use crate::lex_faults::refuse_lexing;
 use crate::refusal::refuse_at;
 use crate::stop::Stop;
-use pc_caps::List;
+use pc_base::List;
 use pc_lex::lex;
 use pc_parse::{ParseFault, file};
 use pc_text_order::tokens_are_in_order;

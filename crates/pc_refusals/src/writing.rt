@@ -5,7 +5,7 @@ ghost use Rattle.pc_refusals.specs.Inner.Answering.{Puts};
 ghost use Rattle.pc_refusals.specs.Inner.Stages.{StageWrote};
 
 use crate::stop::Stop;
-use pc_caps::List;
+use pc_base::List;
 use pc_io::{Sink, SinkFault};
 
 /// Writes a text in one call of `put`.

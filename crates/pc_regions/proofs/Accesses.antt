@@ -1,51 +1,24 @@
 -- In a configuration that is well typed and has regions, each access is to an object of the actor, or reads a frozen
 -- one.
 use Rattle.std.specs.Prelude.{◌≡◌, ◌⊎◌, ℕ, ◌+◌, ◌<◌, true, List, [], ◌∷◌, length, Option, Some, slice_get, refl}
-use Rattle.std.proofs.Common.{inl, inr, ap, sym, subst, ◌∙◌, arith}
-use Rattle.std.proofs.lemmas.Option.{same_Some, none-some}
-use Rattle.pc_heap.specs.Objects.{ObjectMap}
-use Rattle.pc_heap.specs.declared.value.Address.{Address}
-use Rattle.pc_heap.specs.declared.value.Value.{Value}
-use Rattle.pc_heap.specs.declared.value.Value.TheVariants.{At}
-use Rattle.pc_caps.specs.Tables.{view, taken, unalias}
-use Rattle.pc_caps.specs.declared.capability.Cap.{Cap}
+use Rattle.std.proofs.{Common.{inl, inr, ap, sym, subst, ◌∙◌, arith}, lemmas.Option.{same_Some, none-some}}
+use Rattle.pc_heap.specs.{Objects.ObjectMap, declared.value.Address.Address, declared.value.Value.Value, declared.value.Value.TheVariants.At}
+use Rattle.pc_caps.specs.{Tables.{view, taken, unalias}, declared.capability.Cap.Cap, declared.capability.Form.Form}
 use Rattle.pc_caps.specs.declared.capability.Cap.TheVariants as cap
-use Rattle.pc_caps.specs.declared.capability.Form.{Form}
 use Rattle.pc_caps.specs.declared.capability.Form.TheVariants as form
-use Rattle.pc_core.specs.declared.declarations.Method.{Method}
-use Rattle.pc_core.specs.declared.declarations.MethodKind.{MethodKind}
+use Rattle.pc_core.specs.{declared.declarations.Method.Method, declared.declarations.MethodKind.MethodKind, declared.nodes.Node.Node, declared.nodes.NodeKind.NodeKind, CoreData.CoreData, Methods.ResultFits, Nodes.HasArity}
 use Rattle.pc_core.specs.declared.declarations.MethodKind.TheVariants as method
-use Rattle.pc_core.specs.declared.nodes.Node.{Node}
-use Rattle.pc_core.specs.declared.nodes.NodeKind.{NodeKind}
 use Rattle.pc_core.specs.declared.nodes.NodeKind.TheVariants as nodes
-use Rattle.pc_core.specs.CoreData.{CoreData}
-use Rattle.pc_core.specs.Methods.{ResultFits}
-use Rattle.pc_core.specs.Nodes.{HasArity}
-use Rattle.pc_ann.specs.declared.annotation.Ann.{Ann}
-use Rattle.pc_ann.specs.declared.annotation.Rule.{Rule}
+use Rattle.pc_ann.specs.{declared.annotation.Ann.Ann, declared.annotation.Rule.Rule}
 use Rattle.pc_ann.specs.declared.annotation.Rule.TheVariants as rule
-use Rattle.pc_semantics.specs.declared.frames.Frame.{Frame}
-use Rattle.pc_semantics.specs.declared.frames.Task.{Task}
+use Rattle.pc_semantics.specs.{declared.frames.Frame.Frame, declared.frames.Task.Task, Configurations.Around}
 use Rattle.pc_semantics.specs.declared.frames.Task.TheVariants as task
-use Rattle.pc_semantics.specs.Configurations.{Around}
-use Rattle.pc_rules.specs.Parts.{type_of, last_child, constructs}
+use Rattle.pc_rules.specs.{Parts.{type_of, last_child, constructs}, Rules.said_by}
 use Rattle.pc_valid.specs.Words.{Ty, before}
-use Rattle.pc_rules.specs.Rules.{said_by}
 use Rattle.pc_rules.proofs.ByNumber.{incomplete, read_says, own_read_says, write_says, own_write_says, says}
-use Rattle.pc_lists.proofs.Bools.{false_true}
-use Rattle.pc_lists.proofs.Options.{kept, kept_otherwise}
-use Rattle.pc_types.proofs.Types.{Want, StackOk}
-use Rattle.pc_types.proofs.Tasks.{want_of, stacked, reads, writes, TasksOk}
-use Rattle.pc_types.proofs.Moves.{Runs}
-use Rattle.pc_regions.proofs.World.{InSlot, OnStack, World, Frozen, Belongs, stack, child, FitsIn, Fits, FitsSome, AliasIn, Alias, AliasSome, WorldOk}
-use Rattle.pc_regions.proofs.StackForms.{Entry, piled, uses_top}
-use Rattle.pc_regions.proofs.Fitting.{StackFits, TopAlias}
-use Rattle.pc_regions.proofs.MoveFits.{Situated}
-use Rattle.pc_types.proofs.Needs.{Needs}
-use Rattle.pc_types.proofs.Notes.{meets}
-use Rattle.pc_types.proofs.GetTask.{GetRule, OwnGetRule, read_is, own_read_is, only_last}
-use Rattle.pc_types.proofs.PutTask.{PutRule, OwnPutRule, write_is, own_write_is}
-use Rattle.pc_regions.proofs.OneHolder.{context_belongs, over_is_of, seen_belongs}
+use Rattle.pc_base.proofs.{Bools.false_true, Options.{kept, kept_otherwise}}
+use Rattle.pc_types.proofs.{Types.{Want, StackOk}, Tasks.{want_of, stacked, reads, writes, TasksOk}, Moves.Runs, Needs.Needs, Notes.meets, GetTask.{GetRule, OwnGetRule, read_is, own_read_is, only_last}, PutTask.{PutRule, OwnPutRule, write_is, own_write_is}}
+use Rattle.pc_regions.proofs.{World.{InSlot, OnStack, World, Frozen, Belongs, stack, child, FitsIn, Fits, FitsSome, AliasIn, Alias, AliasSome, WorldOk}, StackForms.{Entry, piled, uses_top}, Fitting.{StackFits, TopAlias}, MoveFits.Situated, OneHolder.{context_belongs, over_is_of, seen_belongs}}
 
 -- ---- origins
 

@@ -3,25 +3,8 @@ use Rattle.pc_core.specs.CoreData.{CoreData}
 use Rattle.pc_ann.specs.declared.annotation.Ann.{Ann}
 use Rattle.pc_semantics.specs.declared.frames.Task.{Task}
 use Rattle.pc_semantics.specs.declared.frames.Task.TheVariants as task
-use Rattle.pc_regions.proofs.Climbed.{ClimbLaw}
+use Rattle.pc_regions.proofs.{Climbed.ClimbLaw, LiveScope.live_shallow, Schedules.KeepsRegions, Settling.settle, Taking.take, ContextComes.{opens, lends}, ContextGoes.ends, Climbing.{climb, drops}, EvalKeeps.keeps_eval_regions, GetKeeps.keeps_get_regions, PutKeeps.keeps_put_regions, StoreKeeps.regions_store, MakeKeeps.regions_make, SpawnKeeps.regions_spawn, InvokeKeeps.regions_invoke, ApplyKeeps.keeps_apply_regions, ChoicesKeep.{keeps_test_regions, keeps_branch_regions, keeps_loop_regions, keeps_discard_regions}, ReturnKeeps.return_regions}
 use Rattle.pc_types.proofs.Needs.{Needs}
-use Rattle.pc_regions.proofs.LiveScope.{live_shallow}
-use Rattle.pc_regions.proofs.Schedules.{KeepsRegions}
-use Rattle.pc_regions.proofs.Settling.{settle}
-use Rattle.pc_regions.proofs.Taking.{take}
-use Rattle.pc_regions.proofs.ContextComes.{opens, lends}
-use Rattle.pc_regions.proofs.ContextGoes.{ends}
-use Rattle.pc_regions.proofs.Climbing.{climb, drops}
-use Rattle.pc_regions.proofs.EvalKeeps.{keeps_eval_regions}
-use Rattle.pc_regions.proofs.GetKeeps.{keeps_get_regions}
-use Rattle.pc_regions.proofs.PutKeeps.{keeps_put_regions}
-use Rattle.pc_regions.proofs.StoreKeeps.{regions_store}
-use Rattle.pc_regions.proofs.MakeKeeps.{regions_make}
-use Rattle.pc_regions.proofs.SpawnKeeps.{regions_spawn}
-use Rattle.pc_regions.proofs.InvokeKeeps.{regions_invoke}
-use Rattle.pc_regions.proofs.ApplyKeeps.{keeps_apply_regions}
-use Rattle.pc_regions.proofs.ChoicesKeep.{keeps_test_regions, keeps_branch_regions, keeps_loop_regions, keeps_discard_regions}
-use Rattle.pc_regions.proofs.ReturnKeeps.{return_regions}
 
 -- Values climb.
 climbs : (core : CoreData) (ann : Ann) → Needs core ann → ClimbLaw core

@@ -1,39 +1,18 @@
 -- The task Apply in regions: the value of an operator is not an object's address, and replaces the operands.
 use Rattle.std.specs.Prelude.{◌≡◌, ℕ, ◌+◌, true, List, [], ◌∷◌, ◌++◌, length, Option, Some, slice_get, refl}
-use Rattle.std.proofs.Common.{ap, sym, subst, ◌∙◌, append_assoc, arith, length-append}
-use Rattle.std.proofs.lemmas.Option.{same_Some}
-use Rattle.pc_heap.specs.declared.value.Value.{Value}
-use Rattle.pc_heap.specs.declared.value.Value.TheVariants.{Num, Truth, Text, Prim, At}
+use Rattle.std.proofs.{Common.{ap, sym, subst, ◌∙◌, append_assoc, arith, length-append}, lemmas.Option.same_Some}
+use Rattle.pc_heap.specs.{declared.value.Value.Value, declared.value.Value.TheVariants.{Num, Truth, Text, Prim, At}}
 use Rattle.pc_caps.specs.declared.capability.Form.{Form}
-use Rattle.pc_core.specs.declared.nodes.Node.{Node}
-use Rattle.pc_core.specs.CoreData.{CoreData}
-use Rattle.pc_masks.specs.declared.mask.Mask.{Mask}
-use Rattle.pc_ann.specs.declared.annotation.Note.{Note}
-use Rattle.pc_ann.specs.declared.annotation.Ann.{Ann}
-use Rattle.pc_masks.specs.Masks.{IsInMask}
-use Rattle.pc_semantics.specs.declared.frames.Frame.{Frame}
+use Rattle.pc_core.specs.{declared.nodes.Node.Node, CoreData.CoreData}
+use Rattle.pc_masks.specs.{declared.mask.Mask.Mask, Masks.IsInMask}
+use Rattle.pc_ann.specs.{declared.annotation.Note.Note, declared.annotation.Ann.Ann}
+use Rattle.pc_semantics.specs.{declared.frames.Frame.Frame, Configurations.{Around, Goes, with_stack, pushed}, Parts.at_node, Evaluation.apply_task}
 use Rattle.pc_semantics.specs.declared.frames.Task.TheVariants as task
-use Rattle.pc_semantics.specs.Configurations.{Around, Goes, with_stack, pushed}
-use Rattle.pc_semantics.specs.Parts.{at_node}
-use Rattle.pc_semantics.specs.Evaluation.{apply_task}
 use Rattle.pc_rules.specs.Parts.{through, type_of}
 use Rattle.pc_valid.specs.Words.{Ty, Masks, before}
-use Rattle.pc_lists.proofs.Bools.{false_true}
-use Rattle.pc_types.proofs.Types.{OfType}
-use Rattle.pc_types.proofs.Tasks.{applies, FinishOk, TasksOk}
-use Rattle.pc_types.proofs.Moves.{Runs}
-use Rattle.pc_regions.proofs.World.{World, Place, Fits, Alias}
-use Rattle.pc_regions.proofs.StackForms.{Entry, Rises, entry_of, piled, FinishRises, TasksRise}
-use Rattle.pc_regions.proofs.Fitting.{StackFits}
-use Rattle.pc_regions.proofs.MoveFits.{RegionMoveOk, Situated}
-use Rattle.pc_regions.proofs.Climbed.{ClimbLaw}
-use Rattle.pc_types.proofs.Needs.{Needs}
-use Rattle.pc_types.proofs.Inverse.{Says}
-use Rattle.pc_types.proofs.Finish.{rule_is}
-use Rattle.pc_types.proofs.ApplyTask.{no_object, apply_kind}
-use Rattle.pc_regions.proofs.Rising.{Pushes, rise}
-use Rattle.pc_regions.proofs.ChildForms.{at_depth}
-use Rattle.pc_regions.proofs.Schedules.{KeepsRegions}
+use Rattle.pc_base.proofs.Bools.{false_true}
+use Rattle.pc_types.proofs.{Types.OfType, Tasks.{applies, FinishOk, TasksOk}, Moves.Runs, Needs.Needs, Inverse.Says, Finish.rule_is, ApplyTask.{no_object, apply_kind}}
+use Rattle.pc_regions.proofs.{World.{World, Place, Fits, Alias}, StackForms.{Entry, Rises, entry_of, piled, FinishRises, TasksRise}, Fitting.StackFits, MoveFits.{RegionMoveOk, Situated}, Climbed.ClimbLaw, Rising.{Pushes, rise}, ChildForms.at_depth, Schedules.KeepsRegions}
 
 -- ---- values that are not objects
 

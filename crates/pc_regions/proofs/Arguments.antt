@@ -1,30 +1,19 @@
 -- The arguments of a call on a stack that fits by regions: where each is, and which form it has.
 use Rattle.std.specs.Prelude.{◌≡◌, ◌⊎◌, ℕ, suc, ◌+◌, true, ◌||◌, List, [], ◌∷◌, ◌++◌, length, Option, Some, None, slice_get, refl}
-use Rattle.std.proofs.Common.{ap, sym, subst, ◌∙◌, arith}
-use Rattle.std.proofs.lemmas.Option.{same_Some, some_pair_parts}
-use Rattle.std.proofs.lemmas.Bool.{and_parts, or_cases}
-use Rattle.std.proofs.lemmas.List.{append-nil}
+use Rattle.std.proofs.{Common.{ap, sym, subst, ◌∙◌, arith}, lemmas.Option.{same_Some, some_pair_parts}, lemmas.Bool.{and_parts, or_cases}, lemmas.List.append-nil}
 use Rattle.pc_heap.specs.declared.value.Value.{Value}
-use Rattle.pc_caps.specs.Computed.{is_below, fits}
-use Rattle.pc_caps.specs.Closure.{below_iff}
-use Rattle.pc_caps.specs.Tables.{unalias, sendable, sendable_form}
-use Rattle.pc_core.specs.declared.declarations.ParamInfo.{ParamInfo}
-use Rattle.pc_core.specs.CoreData.{CoreData}
-use Rattle.pc_lists.specs.Lists.{Each}
+use Rattle.pc_caps.specs.{Computed.{is_below, fits}, Closure.below_iff, Tables.{unalias, sendable, sendable_form}}
+use Rattle.pc_core.specs.{declared.declarations.ParamInfo.ParamInfo, CoreData.CoreData, Entities.ParamFits}
+use Rattle.pc_base.specs.Lists.{Each}
 use Rattle.pc_ann.specs.declared.annotation.Ann.{Ann}
 use Rattle.pc_semantics.specs.Configurations.{popped}
 use Rattle.pc_sub.specs.Computed.{is_sub}
-use Rattle.pc_rules.specs.Parts.{type_of}
+use Rattle.pc_rules.specs.{Parts.type_of, Calls.{argument_goes, argument_sendable}}
 use Rattle.pc_valid.specs.Words.{Ty}
-use Rattle.pc_core.specs.Entities.{ParamFits}
-use Rattle.pc_rules.specs.Calls.{argument_goes, argument_sendable}
 use Rattle.pc_rules.proofs.ByNumber.{arguments_go, arguments_sendable}
-use Rattle.pc_lists.proofs.Bools.{false_true}
-use Rattle.pc_regions.proofs.World.{World, OnStack, FitsSome}
-use Rattle.pc_regions.proofs.StackForms.{Entry, piled}
-use Rattle.pc_regions.proofs.Fitting.{StackFits}
+use Rattle.pc_base.proofs.Bools.{false_true}
+use Rattle.pc_regions.proofs.{World.{World, OnStack, FitsSome}, StackForms.{Entry, piled}, Fitting.StackFits, ControlKeeps.below_same}
 use Rattle.pc_types.proofs.Popped.{popped_more}
-use Rattle.pc_regions.proofs.ControlKeeps.{below_same}
 
 -- ---- the top of a stack
 

@@ -1,30 +1,19 @@
 -- Arguments settle, one after another, where they are wanted: each at the parameter of the method that was found, after
 -- that of the method by which the call was read if the place lives with another region.
 use Rattle.std.specs.Prelude.{◌≡◌, ◌≢◌, ◌⊎◌, ℕ, suc, ◌+◌, ◌<◌, ◌≤◌, Bool, true, false, ◌&&◌, List, [], ◌∷◌, length, Option, Some, nat_eq, nat_lt, slice_get, refl}
-use Rattle.std.proofs.Common.{inl, inr, sym, subst, ◌∙◌, arith, None}
-use Rattle.std.proofs.lemmas.Bool.{eq-eqb, ne_eqb, cases_lt, lt-ltb, le-ltb}
-use Rattle.pc_heap.specs.Objects.{ObjectMap}
-use Rattle.pc_heap.specs.declared.value.Value.{Value}
-use Rattle.pc_caps.specs.Computed.{is_below}
-use Rattle.pc_caps.specs.Closure.{below_iff}
-use Rattle.pc_caps.specs.Tables.{unalias, sendable, sendable_form}
-use Rattle.pc_caps.specs.declared.capability.Cap.{Cap}
+use Rattle.std.proofs.{Common.{inl, inr, sym, subst, ◌∙◌, arith, None}, lemmas.Bool.{eq-eqb, ne_eqb, cases_lt, lt-ltb, le-ltb}}
+use Rattle.pc_heap.specs.{Objects.ObjectMap, declared.value.Value.Value}
+use Rattle.pc_caps.specs.{Computed.is_below, Closure.below_iff, Tables.{unalias, sendable, sendable_form}, declared.capability.Cap.Cap, declared.capability.Form.Form}
 use Rattle.pc_caps.specs.declared.capability.Cap.TheVariants as cap
-use Rattle.pc_caps.specs.declared.capability.Form.{Form}
 use Rattle.pc_caps.specs.declared.capability.Form.TheVariants as form
-use Rattle.pc_core.specs.declared.declarations.ParamInfo.{ParamInfo}
-use Rattle.pc_core.specs.CoreData.{CoreData}
-use Rattle.pc_lists.specs.Lists.{Each}
+use Rattle.pc_core.specs.{declared.declarations.ParamInfo.ParamInfo, CoreData.CoreData}
+use Rattle.pc_base.specs.Lists.{Each}
 use Rattle.pc_ann.specs.declared.annotation.Ann.{Ann}
 use Rattle.pc_rules.specs.Parts.{type_of}
 use Rattle.pc_rules.proofs.ByNumber.{arguments_go, arguments_sendable}
-use Rattle.pc_lists.proofs.Bools.{false_true}
-use Rattle.pc_regions.proofs.World.{Place, InSlot, OnStack, InField, InMail, World, home, Fits, FitsSome, WorldOk}
-use Rattle.pc_regions.proofs.Settled.{Lands, NearFrom, Near, SettleLaw}
+use Rattle.pc_base.proofs.Bools.{false_true}
+use Rattle.pc_regions.proofs.{World.{Place, InSlot, OnStack, InField, InMail, World, home, Fits, FitsSome, WorldOk}, Settled.{Lands, NearFrom, Near, SettleLaw}, Arguments.{ArgumentsStand, GoesIn, first_goes, first_sendable}, FirstFrame.ArgumentsAt, Calm.{Calm, calm_wider, calm_both, calm_same}}
 use Rattle.pc_types.proofs.Declarations.{below_trans}
-use Rattle.pc_regions.proofs.Arguments.{ArgumentsStand, GoesIn, first_goes, first_sendable}
-use Rattle.pc_regions.proofs.FirstFrame.{ArgumentsAt}
-use Rattle.pc_regions.proofs.Calm.{Calm, calm_wider, calm_both, calm_same}
 
 -- ---- forms
 

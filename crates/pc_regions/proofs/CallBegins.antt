@@ -1,30 +1,17 @@
 -- A node of a typed frame is the one that rises in regions, and a method's frame begins above the one that waits.
 use Rattle.std.specs.Prelude.{◌≡◌, ◌≢◌, ℕ, suc, ◌+◌, Bool, true, List, ◌∷◌, length, Option, Some, slice_get}
-use Rattle.std.proofs.Common.{inr, sym, subst, ◌∙◌}
-use Rattle.std.proofs.lemmas.Option.{same_Some}
+use Rattle.std.proofs.{Common.{inr, sym, subst, ◌∙◌}, lemmas.Option.same_Some}
 use Rattle.pc_heap.specs.declared.value.Value.{Value}
 use Rattle.pc_caps.specs.Tables.{unalias}
-use Rattle.pc_core.specs.declared.declarations.Method.{Method}
-use Rattle.pc_core.specs.declared.nodes.Node.{Node}
-use Rattle.pc_core.specs.declared.nodes.NodeKind.{NodeKind}
-use Rattle.pc_core.specs.CoreData.{CoreData}
+use Rattle.pc_core.specs.{declared.declarations.Method.Method, declared.nodes.Node.Node, declared.nodes.NodeKind.NodeKind, CoreData.CoreData}
 use Rattle.pc_masks.specs.declared.mask.Mask.{Mask}
-use Rattle.pc_ann.specs.declared.annotation.Note.{Note}
-use Rattle.pc_ann.specs.declared.annotation.Ann.{Ann}
-use Rattle.pc_semantics.specs.declared.frames.Frame.{Frame}
-use Rattle.pc_semantics.specs.declared.frames.Task.{Task}
-use Rattle.pc_semantics.specs.Configurations.{first_frame}
+use Rattle.pc_ann.specs.{declared.annotation.Note.Note, declared.annotation.Ann.Ann}
+use Rattle.pc_semantics.specs.{declared.frames.Frame.Frame, declared.frames.Task.Task, Configurations.first_frame}
 use Rattle.pc_rules.specs.Parts.{through}
 use Rattle.pc_valid.specs.Words.{Ty, before}
-use Rattle.pc_lists.proofs.Bools.{false_true}
-use Rattle.pc_types.proofs.Types.{Want}
-use Rattle.pc_types.proofs.Tasks.{Within, stacked, Follows, FinishOk}
-use Rattle.pc_regions.proofs.World.{World, InSlot, Fits}
-use Rattle.pc_regions.proofs.StackForms.{Entry, Rises, TasksRise}
-use Rattle.pc_regions.proofs.Fitting.{Entered, GoesTo, FramesFit}
-use Rattle.pc_types.proofs.Needs.{Needs}
-use Rattle.pc_regions.proofs.FirstFrame.{ArgumentsAt, begins_active, begins_body}
-use Rattle.pc_regions.proofs.CallerKept.{Rests, waits}
+use Rattle.pc_base.proofs.Bools.{false_true}
+use Rattle.pc_types.proofs.{Types.Want, Tasks.{Within, stacked, Follows, FinishOk}, Needs.Needs}
+use Rattle.pc_regions.proofs.{World.{World, InSlot, Fits}, StackForms.{Entry, Rises, TasksRise}, Fitting.{Entered, GoesTo, FramesFit}, FirstFrame.{ArgumentsAt, begins_active, begins_body}, CallerKept.{Rests, waits}}
 
 -- The same node and note, by another name.
 abbrev pub finish_at : (core : CoreData) (ann : Ann) (m : ℕ) (l st : Mask) (g : List Want) (does : NodeKind → Bool) (n : ℕ) (go : Mask → Mask → List Want → Type 0) → FinishOk core ann m l st g does n go → (x : Node) (t : Note) → slice_get core.nodes n ≡ Some x → slice_get ann.notes n ≡ Some t → FinishOk core ann m l st g does n go

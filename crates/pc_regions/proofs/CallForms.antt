@@ -1,20 +1,14 @@
 -- What the rules of calls state about forms.
 use Rattle.std.specs.Prelude.{◌≡◌, ◌⊎◌, ℕ, true, ◌&&◌, not, Some, slice_get}
-use Rattle.std.proofs.Common.{inl, inr}
-use Rattle.std.proofs.lemmas.Bool.{and_parts}
-use Rattle.pc_caps.specs.Computed.{fits, is_below}
-use Rattle.pc_caps.specs.Tables.{unalias}
+use Rattle.std.proofs.{Common.{inl, inr}, lemmas.Bool.and_parts}
+use Rattle.pc_caps.specs.{Computed.{fits, is_below}, Tables.unalias}
 use Rattle.pc_core.specs.declared.declarations.MethodKind.TheVariants as method
-use Rattle.pc_core.specs.declared.nodes.Node.{Node}
+use Rattle.pc_core.specs.{declared.nodes.Node.Node, CoreData.CoreData}
 use Rattle.pc_core.specs.declared.nodes.NodeKind.TheVariants as nodes
-use Rattle.pc_core.specs.CoreData.{CoreData}
-use Rattle.pc_lists.proofs.Options.{bind_some, kept}
-use Rattle.pc_ann.specs.declared.annotation.Note.{Note}
-use Rattle.pc_ann.specs.declared.annotation.Ann.{Ann}
-use Rattle.pc_rules.specs.Parts.{says_of, through}
+use Rattle.pc_base.proofs.Options.{bind_some, kept}
+use Rattle.pc_ann.specs.{declared.annotation.Note.Note, declared.annotation.Ann.Ann}
+use Rattle.pc_rules.specs.{Parts.{says_of, through}, Calls.{is_function, is_isolated, is_lent, lends, recovered_result}, Rules.said_by}
 use Rattle.pc_valid.specs.Words.{before}
-use Rattle.pc_rules.specs.Calls.{is_function, is_isolated, is_lent, lends, recovered_result}
-use Rattle.pc_rules.specs.Rules.{said_by}
 use Rattle.pc_rules.proofs.ByNumber.{arguments, arguments_go, arguments_sendable, called, calls, recovers, call_says, callrecover_says, IsSaid}
 use Rattle.pc_types.proofs.InverseCalls.{CalledRule, SendRule, TextRule, said_ty, function_is, call_rules, called_of, send_inverse, builtin_inverse, at_kind}
 

@@ -1,35 +1,17 @@
 -- A frame whose node takes what its children left on the stack: what is preserved of it, of the frames below, of fields
 -- and of the other actors while these values settle elsewhere.
 use Rattle.std.specs.Prelude.{◌≡◌, ℕ, suc, ◌+◌, ◌<◌, ◌≤◌, Bool, true, false, ◌&&◌, List, [], ◌∷◌, length, Option, Some, None, nat_eq, nat_lt, refl}
-use Rattle.std.proofs.Common.{inr, ap, sym, subst, ◌∙◌, arith}
-use Rattle.std.proofs.lemmas.Bool.{ne_eqb, le-ltb, and_right}
-use Rattle.pc_heap.specs.Objects.{ObjectMap}
-use Rattle.pc_heap.specs.declared.value.Address.{Address}
-use Rattle.pc_heap.specs.declared.value.Value.{Value}
+use Rattle.std.proofs.{Common.{inr, ap, sym, subst, ◌∙◌, arith}, lemmas.Bool.{ne_eqb, le-ltb, and_right}}
+use Rattle.pc_heap.specs.{Objects.ObjectMap, declared.value.Address.Address, declared.value.Value.Value}
 use Rattle.pc_caps.specs.Tables.{unalias}
-use Rattle.pc_core.specs.declared.declarations.Method.{Method}
-use Rattle.pc_core.specs.declared.nodes.NodeKind.{NodeKind}
-use Rattle.pc_core.specs.CoreData.{CoreData}
+use Rattle.pc_core.specs.{declared.declarations.Method.Method, declared.nodes.NodeKind.NodeKind, CoreData.CoreData}
 use Rattle.pc_masks.specs.declared.mask.Mask.{Mask}
 use Rattle.pc_ann.specs.declared.annotation.Ann.{Ann}
-use Rattle.pc_semantics.specs.declared.frames.Frame.{Frame}
-use Rattle.pc_semantics.specs.declared.frames.Task.{Task}
-use Rattle.pc_semantics.specs.Configurations.{Around, popped}
+use Rattle.pc_semantics.specs.{declared.frames.Frame.Frame, declared.frames.Task.Task, Configurations.{Around, popped}}
 use Rattle.pc_rules.specs.Parts.{through}
 use Rattle.pc_valid.specs.Words.{Ty, Masks, before}
-use Rattle.pc_types.proofs.Tasks.{Within}
-use Rattle.pc_regions.proofs.World.{Place, InSlot, OnStack, InField, InMail, World, FitsSome, WorldOk}
-use Rattle.pc_regions.proofs.StackForms.{Entry, Shallow, TasksRise, FinishRises, Rises, SlotsShallow}
-use Rattle.pc_regions.proofs.Fitting.{ThisFits, SlotsFit, StackFits, Entered, OpenedTo, GoesTo, Awaits, WaitFits, FieldsFit}
-use Rattle.pc_regions.proofs.MoveFits.{elsewhere, Others, Situated}
-use Rattle.pc_regions.proofs.Changes.{Shifts}
-use Rattle.pc_types.proofs.Basic.{within_same}
-use Rattle.pc_types.proofs.Callers.{left_within}
-use Rattle.pc_regions.proofs.Shifts.{others_kept, fields_kept, below_kept, below_under}
-use Rattle.pc_regions.proofs.Arguments.{Pulled, pull, ChildrenStand, children_stand}
-use Rattle.pc_regions.proofs.ArgumentsSettle.{from_place}
-use Rattle.pc_regions.proofs.Rising.{Pushes, not_here}
-use Rattle.pc_regions.proofs.Waiting.{this_low, slots_low, stack_low}
+use Rattle.pc_types.proofs.{Tasks.Within, Basic.within_same, Callers.left_within}
+use Rattle.pc_regions.proofs.{World.{Place, InSlot, OnStack, InField, InMail, World, FitsSome, WorldOk}, StackForms.{Entry, Shallow, TasksRise, FinishRises, Rises, SlotsShallow}, Fitting.{ThisFits, SlotsFit, StackFits, Entered, OpenedTo, GoesTo, Awaits, WaitFits, FieldsFit}, MoveFits.{elsewhere, Others, Situated}, Changes.Shifts, Shifts.{others_kept, fields_kept, below_kept, below_under}, Arguments.{Pulled, pull, ChildrenStand, children_stand}, ArgumentsSettle.from_place, Rising.{Pushes, not_here}, Waiting.{this_low, slots_low, stack_low}}
 
 -- ---- places from a depth of the stack on
 

@@ -1,12 +1,9 @@
 -- Settling leaves everything else unchanged: contexts, roles and levels, what is over regions, and aliases.
 use Rattle.std.specs.Prelude.{◌≡◌, ℕ, ◌<◌, ◌≤◌, Bool, false, refl}
 use Rattle.std.proofs.Common.{sym, subst, ◌∙◌}
-use Rattle.pc_heap.specs.Objects.{ObjectMap}
-use Rattle.pc_heap.specs.declared.value.Value.{Value}
+use Rattle.pc_heap.specs.{Objects.ObjectMap, declared.value.Value.Value}
 use Rattle.pc_caps.specs.declared.capability.Form.{Form}
-use Rattle.pc_regions.proofs.World.{Place, Opened, World, Alias, Over, WorldOk}
-use Rattle.pc_regions.proofs.Changes.{Shifts}
-use Rattle.pc_regions.proofs.Shifts.{wider, shifts_none, shifts_then}
+use Rattle.pc_regions.proofs.{World.{Place, Opened, World, Alias, Over, WorldOk}, Changes.Shifts, Shifts.{wider, shifts_none, shifts_then}}
 
 pub record Calm (w w' : World) (objects : ObjectMap) (count i : ℕ) (gone : Place → Bool) : Type 0 where
   pub shifts : Shifts w w' objects count i (w.top i) gone

@@ -2,8 +2,7 @@
 -- new one is opened, and a context comes or goes. What an actor does in a frame shifts a world, and preserves what is
 -- required at the other places.
 use Rattle.std.specs.Prelude.{◌≡◌, ◌≢◌, ◌⊎◌, ℕ, suc, ◌-◌, ◌<◌, ◌≤◌, Bool, false, ◌&&◌, cond, Option, Some, None, nat_eq, nat_lt}
-use Rattle.pc_heap.specs.Objects.{ObjectMap}
-use Rattle.pc_heap.specs.declared.value.Value.{Value}
+use Rattle.pc_heap.specs.{Objects.ObjectMap, declared.value.Value.Value}
 use Rattle.pc_caps.specs.declared.capability.Form.{Form}
 use Rattle.pc_regions.proofs.World.{Place, Standing, Unused, Opened, Loose, Held, Child, World, Fits, Alias, Over, WorldOk}
 

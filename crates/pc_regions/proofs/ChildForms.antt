@@ -1,24 +1,17 @@
 -- Children that are evaluated, one after another, and the forms and depths of what they leave.
 use Rattle.std.specs.Prelude.{◌≡◌, ℕ, suc, false, List, [], ◌∷◌, ◌++◌, Option, Some, slice_get, refl}
-use Rattle.std.proofs.Common.{inl, ap, sym, subst, ◌∙◌, arith}
-use Rattle.std.proofs.lemmas.Option.{same_Some, none-some}
-use Rattle.pc_core.specs.declared.nodes.Node.{Node}
+use Rattle.std.proofs.{Common.{inl, ap, sym, subst, ◌∙◌, arith}, lemmas.Option.{same_Some, none-some}}
+use Rattle.pc_core.specs.{declared.nodes.Node.Node, CoreData.CoreData}
 use Rattle.pc_core.specs.declared.nodes.NodeKind.TheVariants as nodes
-use Rattle.pc_core.specs.CoreData.{CoreData}
-use Rattle.pc_lists.specs.Lists.{Each}
+use Rattle.pc_base.specs.Lists.{Each}
 use Rattle.pc_masks.specs.declared.mask.Mask.{Mask}
-use Rattle.pc_ann.specs.declared.annotation.Note.{Note}
-use Rattle.pc_ann.specs.declared.annotation.Ann.{Ann}
-use Rattle.pc_semantics.specs.declared.frames.Task.{Task}
+use Rattle.pc_ann.specs.{declared.annotation.Note.Note, declared.annotation.Ann.Ann}
+use Rattle.pc_semantics.specs.{declared.frames.Task.Task, Children.evaluations, Evaluation.item_tasks}
 use Rattle.pc_semantics.specs.declared.frames.Task.TheVariants as task
-use Rattle.pc_semantics.specs.Children.{evaluations}
-use Rattle.pc_semantics.specs.Evaluation.{item_tasks}
 use Rattle.pc_rules.specs.Parts.{through, type_of, last_child}
 use Rattle.pc_valid.specs.Words.{Ty, Masks, masks_after}
-use Rattle.pc_types.proofs.Tasks.{Within}
+use Rattle.pc_types.proofs.{Tasks.Within, Basic.{within_same, within_trans}, EvalChildren.{within_is, first_of_them, type_is, last_next}}
 use Rattle.pc_regions.proofs.StackForms.{Entry, Shallow, Ascent, Climbs, top_of, SlotsShallow, entry_of, piled, uses_top, EvalRises, TasksRise, LiveShallow}
-use Rattle.pc_types.proofs.Basic.{within_same, within_trans}
-use Rattle.pc_types.proofs.EvalChildren.{within_is, first_of_them, type_is, last_next}
 
 -- Node c exists, in method m at depth d, and is not a body.
 abbrev pub IsAt : CoreData → ℕ → ℕ → ℕ → Type 0

@@ -1,38 +1,18 @@
 -- Test, Branch, Loop and Discard, in regions.
 use Rattle.std.specs.Prelude.{◌≡◌, ℕ, ◌+◌, Bool, true, false, List, [], ◌∷◌, length, Option, Some, slice_get, refl}
 use Rattle.std.proofs.Common.{inl, ap, sym, subst, ◌∙◌}
-use Rattle.pc_heap.specs.declared.value.Value.{Value}
-use Rattle.pc_heap.specs.declared.value.Value.TheVariants.{Truth}
+use Rattle.pc_heap.specs.{declared.value.Value.Value, declared.value.Value.TheVariants.Truth}
 use Rattle.pc_caps.specs.declared.capability.Form.TheVariants as form
-use Rattle.pc_core.specs.declared.nodes.Node.{Node}
-use Rattle.pc_core.specs.declared.nodes.NodeKind.{NodeKind}
+use Rattle.pc_core.specs.{declared.nodes.Node.Node, declared.nodes.NodeKind.NodeKind, CoreData.CoreData}
 use Rattle.pc_core.specs.declared.nodes.NodeKind.TheVariants as nodes
-use Rattle.pc_core.specs.CoreData.{CoreData}
 use Rattle.pc_masks.specs.declared.mask.Mask.{Mask}
-use Rattle.pc_ann.specs.declared.annotation.Note.{Note}
-use Rattle.pc_ann.specs.declared.annotation.Ann.{Ann}
-use Rattle.pc_semantics.specs.declared.frames.Frame.{Frame}
-use Rattle.pc_semantics.specs.declared.frames.Task.{Task}
+use Rattle.pc_ann.specs.{declared.annotation.Note.Note, declared.annotation.Ann.Ann}
+use Rattle.pc_semantics.specs.{declared.frames.Frame.Frame, declared.frames.Task.Task, Configurations.{Around, Move, Goes, with_stack, pushed, none}, Parts.{with_top, at_node, branch_task, loop_task}, Evaluation.{truth, right_side, test_and, test_or, test_task, branch, loop_turn}}
 use Rattle.pc_semantics.specs.declared.frames.Task.TheVariants as task
-use Rattle.pc_semantics.specs.Configurations.{Around, Move, Goes, with_stack, pushed, none}
-use Rattle.pc_semantics.specs.Parts.{with_top, at_node, branch_task, loop_task}
-use Rattle.pc_semantics.specs.Evaluation.{truth, right_side, test_and, test_or, test_task, branch, loop_turn}
 use Rattle.pc_valid.specs.Words.{Ty}
-use Rattle.pc_lists.proofs.Bools.{false_true}
-use Rattle.pc_types.proofs.Types.{OfType, Want, StackOk}
-use Rattle.pc_types.proofs.Tasks.{Within, is_lazy}
-use Rattle.pc_types.proofs.Moves.{Runs}
-use Rattle.pc_regions.proofs.World.{World, OnStack, Fits, Alias}
-use Rattle.pc_regions.proofs.StackForms.{Entry, Shallow, Rises, entry_of, uses_top, TestRises, BranchRises, LoopRises, DiscardRises, TasksRise}
-use Rattle.pc_regions.proofs.Fitting.{StackFits}
-use Rattle.pc_regions.proofs.MoveFits.{RegionMoveOk, Situated}
-use Rattle.pc_regions.proofs.Climbed.{ClimbLaw}
-use Rattle.pc_types.proofs.Needs.{Needs}
-use Rattle.pc_types.proofs.Values.{top_is}
-use Rattle.pc_types.proofs.Choose.{top_truth}
-use Rattle.pc_regions.proofs.Rising.{Pushes, rise, goes_on}
-use Rattle.pc_regions.proofs.ChildForms.{at_depth}
-use Rattle.pc_regions.proofs.Schedules.{KeepsRegions}
+use Rattle.pc_base.proofs.Bools.{false_true}
+use Rattle.pc_types.proofs.{Types.{OfType, Want, StackOk}, Tasks.{Within, is_lazy}, Moves.Runs, Needs.Needs, Values.top_is, Choose.top_truth}
+use Rattle.pc_regions.proofs.{World.{World, OnStack, Fits, Alias}, StackForms.{Entry, Shallow, Rises, entry_of, uses_top, TestRises, BranchRises, LoopRises, DiscardRises, TasksRise}, Fitting.StackFits, MoveFits.{RegionMoveOk, Situated}, Climbed.ClimbLaw, Rising.{Pushes, rise, goes_on}, ChildForms.at_depth, Schedules.KeepsRegions}
 
 -- What is below the top of the stack.
 pub stack_below : (w : World) (i h base : ℕ) (g below : List Entry) (top : Entry) (vs rest : List Value) (v : Value) → g ≡ top ∷ below → vs ≡ v ∷ rest → StackFits w i h base g vs → StackFits w i h base below rest

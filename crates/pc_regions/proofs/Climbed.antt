@@ -2,14 +2,10 @@
 -- the top of the way, and shifts what was there: the frame's other values are preserved, except for those in a recover
 -- that has ended.
 use Rattle.std.specs.Prelude.{◌≡◌, ℕ, ◌+◌, ◌<◌, Bool, false, ◌&&◌, ◌||◌, List, nat_eq, nat_lt}
-use Rattle.pc_heap.specs.Objects.{ObjectMap}
-use Rattle.pc_heap.specs.declared.value.Value.{Value}
+use Rattle.pc_heap.specs.{Objects.ObjectMap, declared.value.Value.Value}
 use Rattle.pc_core.specs.CoreData.{CoreData}
 use Rattle.pc_types.proofs.Types.{OfSome}
-use Rattle.pc_regions.proofs.World.{Place, InSlot, OnStack, InField, InMail, World, FitsSome, AliasSome, WorldOk}
-use Rattle.pc_regions.proofs.StackForms.{Entry, Ascent, Climbs, top_of}
-use Rattle.pc_regions.proofs.Fitting.{OpenedTo}
-use Rattle.pc_regions.proofs.Changes.{Shifts}
+use Rattle.pc_regions.proofs.{World.{Place, InSlot, OnStack, InField, InMail, World, FitsSome, AliasSome, WorldOk}, StackForms.{Entry, Ascent, Climbs, top_of}, Fitting.OpenedTo, Changes.Shifts}
 
 -- The place of depth n on the stack of the frame of height h of actor i, at any level; and all places of this frame above level k.
 abbrev pub passed : (i h n k : ℕ) → Place → Bool

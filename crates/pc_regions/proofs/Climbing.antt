@@ -1,41 +1,17 @@
 -- A value goes up its way, step by step.
-use Rattle.std.specs.Prelude.{◌≡◌, ℕ, suc, ◌+◌, ◌-◌, ◌<◌, ◌≤◌, Bool, true, false, ◌&&◌, ◌||◌, cond, [], ◌∷◌, Option, Some, None, nat_eq, nat_lt, refl}
-use Rattle.std.specs.FinMap.{get}
-use Rattle.std.proofs.Common.{inl, ap, sym, subst, ◌∙◌, arith}
-use Rattle.std.proofs.lemmas.Bool.{eq-eqb, ltb-false, le-ltb, or_from}
-use Rattle.std.proofs.lemmas.Option.{same_Some}
-use Rattle.pc_heap.specs.Objects.{ObjectMap, Object}
-use Rattle.pc_heap.specs.declared.value.Address.{Address}
-use Rattle.pc_heap.specs.declared.value.Value.{Value}
-use Rattle.pc_heap.specs.declared.value.Value.TheVariants.{Num, Truth, Text, Prim, At}
-use Rattle.pc_caps.specs.Tables.{unalias, lift}
-use Rattle.pc_caps.specs.Computed.{fits}
-use Rattle.pc_caps.specs.declared.capability.Cap.{Cap}
-use Rattle.pc_caps.specs.declared.capability.Form.{Form}
+use Rattle.std.specs.{Prelude.{◌≡◌, ℕ, suc, ◌+◌, ◌-◌, ◌<◌, ◌≤◌, Bool, true, false, ◌&&◌, ◌||◌, cond, [], ◌∷◌, Option, Some, None, nat_eq, nat_lt, refl}, FinMap.get}
+use Rattle.std.proofs.{Common.{inl, ap, sym, subst, ◌∙◌, arith}, lemmas.Bool.{eq-eqb, ltb-false, le-ltb, or_from}, lemmas.Option.same_Some}
+use Rattle.pc_heap.specs.{Objects.{ObjectMap, Object}, declared.value.Address.Address, declared.value.Value.Value, declared.value.Value.TheVariants.{Num, Truth, Text, Prim, At}}
+use Rattle.pc_caps.specs.{Tables.{unalias, lift}, Computed.fits, declared.capability.Cap.Cap, declared.capability.Form.Form}
 use Rattle.pc_caps.specs.declared.capability.Form.TheVariants as form
 use Rattle.pc_core.specs.CoreData.{CoreData}
-use Rattle.pc_lists.specs.Lists.{◌>>=◌}
+use Rattle.pc_base.specs.Lists.{◌>>=◌}
 use Rattle.pc_ann.specs.declared.annotation.Ann.{Ann}
 use Rattle.pc_valid.specs.Words.{Ty}
 use Rattle.pc_rules.specs.Control.{recovered}
-use Rattle.pc_lists.proofs.Options.{kept}
-use Rattle.pc_types.proofs.Types.{OfType, OfSome}
-use Rattle.pc_regions.proofs.World.{Place, InSlot, OnStack, InField, InMail, Unused, Opened, Froze, Held, Child, Standing, World, Frozen, ice, under_ice, Seen, same, under, frozen, Fits, FitsSome, Alias, AliasIn, AliasSome, WorldOk}
-use Rattle.pc_regions.proofs.StackForms.{Entry, Below, Ascent, Joins, Decides, Recovers, recovered_type, ascend, MayAscend, top_of}
-use Rattle.pc_regions.proofs.Fitting.{OpenedTo}
-use Rattle.pc_regions.proofs.Changes.{standing, lowered, without_last, Shifts}
-use Rattle.pc_regions.proofs.Settled.{NearFrom, Near, SettleLaw}
-use Rattle.pc_regions.proofs.ContextLaws.{EndLaw}
-use Rattle.pc_regions.proofs.Climbed.{passed, Stands, Climbed, ClimbLaw}
-use Rattle.pc_types.proofs.Needs.{Needs}
-use Rattle.pc_types.proofs.Basic.{of_lower}
-use Rattle.pc_types.proofs.Tables.{below_sees, recovered_sees}
-use Rattle.pc_types.proofs.Values.{is_truth}
-use Rattle.pc_regions.proofs.Shifts.{shifts_both, shifts_none, shifts_less}
-use Rattle.pc_regions.proofs.StandsOtherwise.{stand_here, held_used, froze_used}
-use Rattle.pc_regions.proofs.Closing.{fits_closed, opened_closed, closed_shifts}
-use Rattle.pc_regions.proofs.ValueKeeps.{tag_fits, no_alias, val_moved}
-use Rattle.pc_regions.proofs.Waiting.{top_down}
+use Rattle.pc_base.proofs.Options.{kept}
+use Rattle.pc_types.proofs.{Types.{OfType, OfSome}, Needs.Needs, Basic.of_lower, Tables.{below_sees, recovered_sees}, Values.is_truth}
+use Rattle.pc_regions.proofs.{World.{Place, InSlot, OnStack, InField, InMail, Unused, Opened, Froze, Held, Child, Standing, World, Frozen, ice, under_ice, Seen, same, under, frozen, Fits, FitsSome, Alias, AliasIn, AliasSome, WorldOk}, StackForms.{Entry, Below, Ascent, Joins, Decides, Recovers, recovered_type, ascend, MayAscend, top_of}, Fitting.OpenedTo, Changes.{standing, lowered, without_last, Shifts}, Settled.{NearFrom, Near, SettleLaw}, ContextLaws.EndLaw, Climbed.{passed, Stands, Climbed, ClimbLaw}, Shifts.{shifts_both, shifts_none, shifts_less}, StandsOtherwise.{stand_here, held_used, froze_used}, Closing.{fits_closed, opened_closed, closed_shifts}, ValueKeeps.{tag_fits, no_alias, val_moved}, Waiting.top_down}
 
 -- ---- what is passed
 

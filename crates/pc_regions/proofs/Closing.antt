@@ -1,19 +1,11 @@
 -- A region that was open, and is no longer a context, stands otherwise: it is held at a place, or frozen. No chain of
 -- holders leads through what is open, so every other value fits as it did.
-use Rattle.std.specs.Prelude.{◌≡◌, ◌≢◌, ◌⊎◌, ℕ, ◌<◌, ◌≤◌, Bool, Option, Some, None, refl}
-use Rattle.std.specs.FinMap.{get}
-use Rattle.std.proofs.Common.{inl, inr, ap, sym, subst, ◌∙◌, arith}
-use Rattle.std.proofs.lemmas.Bool.{cases_eq}
-use Rattle.std.proofs.lemmas.Option.{none-some}
-use Rattle.pc_heap.specs.Objects.{ObjectMap, Object}
-use Rattle.pc_heap.specs.declared.value.Address.{Address}
-use Rattle.pc_heap.specs.declared.value.Value.{Value}
-use Rattle.pc_heap.specs.declared.value.Value.TheVariants.{Num, Truth, Text, Prim, At}
+use Rattle.std.specs.{Prelude.{◌≡◌, ◌≢◌, ◌⊎◌, ℕ, ◌<◌, ◌≤◌, Bool, Option, Some, None, refl}, FinMap.get}
+use Rattle.std.proofs.{Common.{inl, inr, ap, sym, subst, ◌∙◌, arith}, lemmas.Bool.cases_eq, lemmas.Option.none-some}
+use Rattle.pc_heap.specs.{Objects.{ObjectMap, Object}, declared.value.Address.Address, declared.value.Value.Value, declared.value.Value.TheVariants.{Num, Truth, Text, Prim, At}}
 use Rattle.pc_caps.specs.declared.capability.Form.{Form}
 use Rattle.pc_caps.specs.declared.capability.Form.TheVariants as form
-use Rattle.pc_regions.proofs.World.{Place, InSlot, InField, Standing, Unused, Loose, Opened, Held, Child, World, home, Frozen, ice, in_ice, under_ice, Seen, same, under, frozen, Over, over_loose, over_slot, over_own, over_field, over_part, over_child, FitsIn, Fits, AliasIn, Alias, WorldOk}
-use Rattle.pc_regions.proofs.Changes.{standing, Shifts}
-use Rattle.pc_regions.proofs.StandsOtherwise.{stand_here, stand_other, home_standing}
+use Rattle.pc_regions.proofs.{World.{Place, InSlot, InField, Standing, Unused, Loose, Opened, Held, Child, World, home, Frozen, ice, in_ice, under_ice, Seen, same, under, frozen, Over, over_loose, over_slot, over_own, over_field, over_part, over_child, FitsIn, Fits, AliasIn, Alias, WorldOk}, Changes.{standing, Shifts}, StandsOtherwise.{stand_here, stand_other, home_standing}}
 
 module _
     (w : World) (objects : ObjectMap) (count : ℕ) (ok : WorldOk w objects count) (i : ℕ) (here : i < count) (u : ℕ) (s : Standing)

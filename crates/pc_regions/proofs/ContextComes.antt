@@ -1,20 +1,11 @@
 -- A context comes: a new region is opened, or one is lent, as the next context of an actor.
 use Rattle.std.specs.Prelude.{◌≡◌, ◌≢◌, ◌⊎◌, ℕ, suc, ◌<◌, ◌≤◌, Bool, true, false, ◌&&◌, Option, Some, None, nat_eq, nat_lt, refl}
-use Rattle.std.proofs.Common.{inl, inr, ap, sym, subst, ◌∙◌, arith}
-use Rattle.std.proofs.lemmas.Bool.{eq-eqb, lt-ltb, cases_eq, cases_lt, and_from}
-use Rattle.std.proofs.lemmas.Option.{same_Some, none-some}
-use Rattle.pc_heap.specs.Objects.{ObjectMap}
-use Rattle.pc_heap.specs.declared.value.Address.{Address}
-use Rattle.pc_heap.specs.declared.value.Value.{Value}
+use Rattle.std.proofs.{Common.{inl, inr, ap, sym, subst, ◌∙◌, arith}, lemmas.Bool.{eq-eqb, lt-ltb, cases_eq, cases_lt, and_from}, lemmas.Option.{same_Some, none-some}}
+use Rattle.pc_heap.specs.{Objects.ObjectMap, declared.value.Address.Address, declared.value.Value.Value}
 use Rattle.pc_caps.specs.declared.capability.Form.{Form}
-use Rattle.pc_lists.proofs.Bools.{false_true}
-use Rattle.pc_regions.proofs.World.{Place, InSlot, OnStack, InField, InMail, Standing, Unused, Froze, Opened, Loose, Held, Child, World, home, Belongs, child, steady, Alias, Over, over_loose, over_slot, over_own, over_field, over_part, over_child, WorldOk}
-use Rattle.pc_regions.proofs.Changes.{with_context, with_number, with_role, with_open, lent, Shifts}
-use Rattle.pc_regions.proofs.ContextLaws.{higher, OpenLaw, LentLaw}
-use Rattle.pc_regions.proofs.OneHolder.{one_actor, context_belongs, over_is_of}
-use Rattle.pc_regions.proofs.StandsOtherwise.{stand_here, stand_other, one_level}
+use Rattle.pc_base.proofs.Bools.{false_true}
+use Rattle.pc_regions.proofs.{World.{Place, InSlot, OnStack, InField, InMail, Standing, Unused, Froze, Opened, Loose, Held, Child, World, home, Belongs, child, steady, Alias, Over, over_loose, over_slot, over_own, over_field, over_part, over_child, WorldOk}, Changes.{with_context, with_number, with_role, with_open, lent, Shifts}, ContextLaws.{higher, OpenLaw, LentLaw}, OneHolder.{one_actor, context_belongs, over_is_of}, StandsOtherwise.{stand_here, stand_other, one_level}, SameRegions.{context_other, context_here, number_here, number_other, role_here, role_other}}
 use Rattle.pc_regions.proofs.SameRegions as renewed
-use Rattle.pc_regions.proofs.SameRegions.{context_other, context_here, number_here, number_other, role_here, role_other}
 
 -- What a level is over is in use.
 pub over_used : (w : World) (j x l : ℕ) → Over w j x l → w.stands x ≡ Unused → ⊥

@@ -1,21 +1,12 @@
 -- A context goes: the last one of an actor is no longer one, and what the places of its level held is loose.
 use Rattle.std.specs.Prelude.{◌≡◌, ◌≢◌, ◌⊎◌, ℕ, suc, ◌-◌, ◌<◌, ◌≤◌, Bool, true, false, ◌&&◌, cond, Option, Some, None, nat_eq, nat_lt, refl}
-use Rattle.std.proofs.Common.{inl, inr, ap, sym, subst, ◌∙◌, arith}
-use Rattle.std.proofs.lemmas.Bool.{ne_eqb, le-ltb, cases_eq, cases_lt, cases_Bool, and_left, and_right, cond-true, cond-false}
-use Rattle.std.proofs.lemmas.Option.{same_Some, none-some}
-use Rattle.pc_heap.specs.Objects.{ObjectMap}
-use Rattle.pc_heap.specs.declared.value.Address.{Address}
-use Rattle.pc_heap.specs.declared.value.Value.{Value}
-use Rattle.pc_heap.specs.declared.value.Value.TheVariants.{Num, Truth, Text, Prim, At}
+use Rattle.std.proofs.{Common.{inl, inr, ap, sym, subst, ◌∙◌, arith}, lemmas.Bool.{ne_eqb, le-ltb, cases_eq, cases_lt, cases_Bool, and_left, and_right, cond-true, cond-false}, lemmas.Option.{same_Some, none-some}}
+use Rattle.pc_heap.specs.{Objects.ObjectMap, declared.value.Address.Address, declared.value.Value.Value, declared.value.Value.TheVariants.{Num, Truth, Text, Prim, At}}
 use Rattle.pc_caps.specs.declared.capability.Form.{Form}
 use Rattle.pc_caps.specs.declared.capability.Form.TheVariants as form
-use Rattle.pc_lists.proofs.Bools.{false_true}
-use Rattle.pc_regions.proofs.World.{Place, InSlot, OnStack, InField, InMail, Standing, Unused, Froze, Opened, Loose, Held, Child, World, home, steady, AliasIn, Alias, Over, over_loose, over_slot, over_own, over_field, over_part, over_child, WorldOk}
-use Rattle.pc_regions.proofs.Changes.{with_number, let_go, left_by, lowered, without_last, Shifts}
-use Rattle.pc_regions.proofs.ContextLaws.{higher, Ends, EndLaw, ended, FallLaw}
-use Rattle.pc_regions.proofs.ContextComes.{high_slot}
+use Rattle.pc_base.proofs.Bools.{false_true}
+use Rattle.pc_regions.proofs.{World.{Place, InSlot, OnStack, InField, InMail, Standing, Unused, Froze, Opened, Loose, Held, Child, World, home, steady, AliasIn, Alias, Over, over_loose, over_slot, over_own, over_field, over_part, over_child, WorldOk}, Changes.{with_number, let_go, left_by, lowered, without_last, Shifts}, ContextLaws.{higher, Ends, EndLaw, ended, FallLaw}, ContextComes.high_slot, SameRegions.{number_here, number_other, role_here, role_other}}
 use Rattle.pc_regions.proofs.SameRegions as renewed
-use Rattle.pc_regions.proofs.SameRegions.{number_here, number_other, role_here, role_other}
 
 -- ---- the last context is one no more
 

@@ -1,11 +1,9 @@
 -- What is preserved while contexts come and go: one is opened, a region is lent as the next one, or the last one ends.
 use Rattle.std.specs.Prelude.{◌≡◌, ◌≢◌, ◌⊎◌, ℕ, suc, ◌<◌, ◌≤◌, Bool, true, false, ◌&&◌, None, nat_eq, nat_lt}
-use Rattle.pc_heap.specs.Objects.{ObjectMap}
-use Rattle.pc_heap.specs.declared.value.Value.{Value}
+use Rattle.pc_heap.specs.{Objects.ObjectMap, declared.value.Value.Value}
 use Rattle.pc_caps.specs.declared.capability.Form.{Form}
 use Rattle.pc_caps.specs.declared.capability.Form.TheVariants as form
-use Rattle.pc_regions.proofs.World.{World, Place, InSlot, OnStack, InField, InMail, Opened, Alias, Over, WorldOk}
-use Rattle.pc_regions.proofs.Changes.{with_open, lent, left_by, without_last, Shifts}
+use Rattle.pc_regions.proofs.{World.{World, Place, InSlot, OnStack, InField, InMail, Opened, Alias, Over, WorldOk}, Changes.{with_open, lent, left_by, without_last, Shifts}}
 
 -- The places of frames of actor i above level k.
 abbrev pub higher : ℕ → ℕ → Place → Bool

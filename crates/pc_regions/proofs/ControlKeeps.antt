@@ -1,51 +1,24 @@
 -- Eval at nodes that look at what they evaluate, and at nodes whose children are all evaluated first, in regions.
 use Rattle.std.specs.Prelude.{◌≡◌, ◌⊎◌, ℕ, ◌<◌, Bool, true, false, cond, List, [], ◌∷◌, ◌++◌, length, Option, Some, None, slice_get, refl}
-use Rattle.std.proofs.Common.{inl, inr, ap, sym, subst, ◌∙◌, append_assoc, arith}
-use Rattle.std.proofs.lemmas.Option.{same_Some, none-some}
-use Rattle.std.proofs.lemmas.Bool.{and_parts}
-use Rattle.pc_lists.proofs.Gets.{get_below}
-use Rattle.pc_caps.specs.Computed.{is_below}
-use Rattle.pc_caps.specs.declared.capability.Form.{Form}
+use Rattle.std.proofs.{Common.{inl, inr, ap, sym, subst, ◌∙◌, append_assoc, arith}, lemmas.Option.{same_Some, none-some}, lemmas.Bool.and_parts}
+use Rattle.pc_base.proofs.{Gets.get_below, Bools.false_true}
+use Rattle.pc_caps.specs.{Computed.is_below, declared.capability.Form.Form}
 use Rattle.pc_caps.specs.declared.capability.Form.TheVariants as form
-use Rattle.pc_core.specs.declared.declarations.Method.{Method}
-use Rattle.pc_core.specs.declared.declarations.MethodKind.{MethodKind}
+use Rattle.pc_core.specs.{declared.declarations.Method.Method, declared.declarations.MethodKind.MethodKind, declared.nodes.Node.Node, declared.nodes.NodeKind.NodeKind, CoreData.CoreData, Nodes.inner_depth}
 use Rattle.pc_core.specs.declared.declarations.MethodKind.TheVariants as method
-use Rattle.pc_core.specs.declared.nodes.Node.{Node}
-use Rattle.pc_core.specs.declared.nodes.NodeKind.{NodeKind}
 use Rattle.pc_core.specs.declared.nodes.NodeKind.TheVariants as nodes
-use Rattle.pc_core.specs.CoreData.{CoreData}
-use Rattle.pc_core.specs.Nodes.{inner_depth}
-use Rattle.pc_lists.specs.Lists.{Each}
-use Rattle.pc_masks.specs.declared.mask.Mask.{Mask}
-use Rattle.pc_ann.specs.declared.annotation.Note.{Note}
-use Rattle.pc_ann.specs.declared.annotation.Ann.{Ann}
-use Rattle.pc_masks.specs.Masks.{meet}
-use Rattle.pc_masks.specs.MaskLaws.{meet_bits, within_bits}
+use Rattle.pc_base.specs.Lists.{Each}
+use Rattle.pc_masks.specs.{declared.mask.Mask.Mask, Masks.meet, MaskLaws.{meet_bits, within_bits}}
+use Rattle.pc_ann.specs.{declared.annotation.Note.Note, declared.annotation.Ann.Ann}
 use Rattle.pc_sub.specs.Computed.{is_sub}
-use Rattle.pc_semantics.specs.declared.frames.Frame.{Frame}
-use Rattle.pc_semantics.specs.declared.frames.Task.{Task}
+use Rattle.pc_semantics.specs.{declared.frames.Frame.Frame, declared.frames.Task.Task, Configurations.{Around, Goes, doing}, Children.evaluations, Evaluation.{children_first, first_then, item_tasks}}
 use Rattle.pc_semantics.specs.declared.frames.Task.TheVariants as task
-use Rattle.pc_semantics.specs.Configurations.{Around, Goes, doing}
-use Rattle.pc_semantics.specs.Children.{evaluations}
-use Rattle.pc_semantics.specs.Evaluation.{children_first, first_then, item_tasks}
-use Rattle.pc_rules.specs.Parts.{lower, through, type_of, last_child}
+use Rattle.pc_rules.specs.{Parts.{lower, through, type_of, last_child}, Control.{joined, gives_result, result_ok}}
 use Rattle.pc_valid.specs.Words.{Ty, Masks, before, masks_after}
-use Rattle.pc_rules.specs.Control.{joined, gives_result, result_ok}
 use Rattle.pc_core.proofs.Homes.{home, home_method}
 use Rattle.pc_rules.proofs.Homes.{home_body, children_before}
-use Rattle.pc_lists.proofs.Bools.{false_true}
-use Rattle.pc_types.proofs.Tasks.{Within, is_lazy}
-use Rattle.pc_regions.proofs.World.{World}
-use Rattle.pc_regions.proofs.StackForms.{Entry, Shallow, Below, Ascent, Joins, Decides, ascend, MayAscend, top_of, Climbs, SlotsShallow, entry_of, piled, uses_top, EvalRises, BodyRises, FinishRises, TasksRise, LiveShallow}
-use Rattle.pc_regions.proofs.MoveFits.{RegionMoveOk, Situated}
-use Rattle.pc_types.proofs.Needs.{Needs}
-use Rattle.pc_types.proofs.Places.{is_under}
-use Rattle.pc_types.proofs.Basic.{within_same, within_trans}
-use Rattle.pc_types.proofs.Begin.{BodyRule}
-use Rattle.pc_types.proofs.EvalChildren.{within_is, items_less, First, first_of_them, type_is}
-use Rattle.pc_types.proofs.Inverse.{LazyRule, IfRule, WhileRule, SeqRule, read_is}
-use Rattle.pc_regions.proofs.Rising.{evaluates}
-use Rattle.pc_regions.proofs.ChildForms.{IsAt, at_depth, child_rises, whole_rises, evaluations_rise, items_rise}
+use Rattle.pc_types.proofs.{Tasks.{Within, is_lazy}, Needs.Needs, Places.is_under, Basic.{within_same, within_trans}, Begin.BodyRule, EvalChildren.{within_is, items_less, First, first_of_them, type_is}, Inverse.{LazyRule, IfRule, WhileRule, SeqRule, read_is}}
+use Rattle.pc_regions.proofs.{World.World, StackForms.{Entry, Shallow, Below, Ascent, Joins, Decides, ascend, MayAscend, top_of, Climbs, SlotsShallow, entry_of, piled, uses_top, EvalRises, BodyRises, FinishRises, TasksRise, LiveShallow}, MoveFits.{RegionMoveOk, Situated}, Rising.evaluates, ChildForms.{IsAt, at_depth, child_rises, whole_rises, evaluations_rise, items_rise}}
 
 -- ---- types
 

@@ -1,52 +1,20 @@
 -- The task Eval, at each kind of node, in regions.
 use Rattle.std.specs.Prelude.{◌≡◌, ℕ, suc, ◌+◌, ◌-◌, ◌<◌, ◌≤◌, Bool, false, ◌&&◌, cond, List, [], ◌∷◌, length, Option, Some, None, nat_eq, nat_lt, slice_get, refl}
-use Rattle.std.proofs.Common.{inl, inr, ap, sym, subst, ◌∙◌, arith}
-use Rattle.std.proofs.lemmas.Bool.{eq-eqb, le-ltb, cases_lt, and_right}
-use Rattle.std.proofs.lemmas.Option.{same_Some}
+use Rattle.std.proofs.{Common.{inl, inr, ap, sym, subst, ◌∙◌, arith}, lemmas.Bool.{eq-eqb, le-ltb, cases_lt, and_right}, lemmas.Option.same_Some}
 use Rattle.pc_heap.specs.declared.value.Value.{Value}
-use Rattle.pc_caps.specs.declared.capability.Cap.{Cap}
-use Rattle.pc_caps.specs.declared.capability.Form.{Form}
-use Rattle.pc_core.specs.declared.nodes.Node.{Node}
-use Rattle.pc_core.specs.declared.nodes.NodeKind.{NodeKind}
+use Rattle.pc_caps.specs.{declared.capability.Cap.Cap, declared.capability.Form.Form}
+use Rattle.pc_core.specs.{declared.nodes.Node.Node, declared.nodes.NodeKind.NodeKind, CoreData.CoreData}
 use Rattle.pc_core.specs.declared.nodes.NodeKind.TheVariants as nodes
-use Rattle.pc_core.specs.CoreData.{CoreData}
-use Rattle.pc_lists.specs.Lists.{◌>>=◌}
+use Rattle.pc_base.specs.Lists.{◌>>=◌}
 use Rattle.pc_ann.specs.declared.annotation.Ann.{Ann}
-use Rattle.pc_semantics.specs.declared.frames.Frame.{Frame}
+use Rattle.pc_semantics.specs.{declared.frames.Frame.Frame, Configurations.Around, Evaluation.{first_then, evaluate}, Parts.evaluate_node}
 use Rattle.pc_semantics.specs.declared.frames.Task.TheVariants as task
-use Rattle.pc_semantics.specs.Configurations.{Around}
-use Rattle.pc_semantics.specs.Evaluation.{first_then, evaluate}
-use Rattle.pc_semantics.specs.Parts.{evaluate_node}
-use Rattle.pc_rules.specs.Parts.{through}
+use Rattle.pc_rules.specs.{Parts.through, Rules.said_by}
 use Rattle.pc_valid.specs.Words.{Ty, before}
-use Rattle.pc_rules.specs.Rules.{said_by}
-use Rattle.pc_rules.proofs.ByNumber.{says}
-use Rattle.pc_rules.proofs.OneRule.{body_rule}
-use Rattle.pc_rules.proofs.Threads.{Threaded, is_branch}
-use Rattle.pc_lists.proofs.Bools.{false_true}
-use Rattle.pc_types.proofs.Tasks.{EvalOk, BodyOk, TasksOk, reads, writes, stores, makes, spawns, invokes, applies, is_lazy}
-use Rattle.pc_types.proofs.Moves.{Runs}
-use Rattle.pc_regions.proofs.World.{Place, InSlot, OnStack, World, Opened, FitsSome}
-use Rattle.pc_regions.proofs.StackForms.{Entry, Shallow, Recovers, recovered_type, EvalRises, BodyRises, TasksRise, LiveShallow}
-use Rattle.pc_regions.proofs.Fitting.{ThisFits, SlotsFit, StackFits, OpenedTo}
-use Rattle.pc_regions.proofs.MoveFits.{RegionMoveOk, Situated}
-use Rattle.pc_regions.proofs.Changes.{with_open, Shifts}
-use Rattle.pc_regions.proofs.Climbed.{ClimbLaw}
-use Rattle.pc_regions.proofs.ContextLaws.{higher, OpenLaw}
-use Rattle.pc_types.proofs.Needs.{Needs}
-use Rattle.pc_types.proofs.Notes.{meets, children_threaded, names_fit, arity_fits}
-use Rattle.pc_types.proofs.Begin.{body_inverse}
-use Rattle.pc_types.proofs.EvalChildren.{within_is, first_of_them, type_is}
-use Rattle.pc_types.proofs.Inverse.{RecoverRule, number_rule, truth_rule, text_rule, prim_rule, this_rule, local_rule, consume_rule, and_rule, or_rule, if_rule, while_rule, seq_rule, recover_rule}
-use Rattle.pc_regions.proofs.Shifts.{others_kept, fields_kept, below_under}
-use Rattle.pc_regions.proofs.Rising.{higher_elsewhere}
-use Rattle.pc_regions.proofs.StandsOtherwise.{stand_here}
-use Rattle.pc_regions.proofs.ChildForms.{IsAt, at_depth}
-use Rattle.pc_regions.proofs.ControlKeeps.{children_of, child_of, strict_goes, finish_rises, entry_at, tail_rises, lazy_goes, if_goes, while_goes, seq_goes, body_goes}
-use Rattle.pc_regions.proofs.ValueKeeps.{number_goes, truth_goes, text_goes, prim_goes, this_goes, slot_goes, consume_goes}
-use Rattle.pc_regions.proofs.Schedules.{KeepsRegions}
-use Rattle.pc_regions.proofs.Waiting.{slot_depth}
-use Rattle.pc_regions.proofs.Taken.{TakeLaw}
+use Rattle.pc_rules.proofs.{ByNumber.says, OneRule.body_rule, Threads.{Threaded, is_branch}}
+use Rattle.pc_base.proofs.Bools.{false_true}
+use Rattle.pc_types.proofs.{Tasks.{EvalOk, BodyOk, TasksOk, reads, writes, stores, makes, spawns, invokes, applies, is_lazy}, Moves.Runs, Needs.Needs, Notes.{meets, children_threaded, names_fit, arity_fits}, Begin.body_inverse, EvalChildren.{within_is, first_of_them, type_is}, Inverse.{RecoverRule, number_rule, truth_rule, text_rule, prim_rule, this_rule, local_rule, consume_rule, and_rule, or_rule, if_rule, while_rule, seq_rule, recover_rule}}
+use Rattle.pc_regions.proofs.{World.{Place, InSlot, OnStack, World, Opened, FitsSome}, StackForms.{Entry, Shallow, Recovers, recovered_type, EvalRises, BodyRises, TasksRise, LiveShallow}, Fitting.{ThisFits, SlotsFit, StackFits, OpenedTo}, MoveFits.{RegionMoveOk, Situated}, Changes.{with_open, Shifts}, Climbed.ClimbLaw, ContextLaws.{higher, OpenLaw}, Shifts.{others_kept, fields_kept, below_under}, Rising.higher_elsewhere, StandsOtherwise.stand_here, ChildForms.{IsAt, at_depth}, ControlKeeps.{children_of, child_of, strict_goes, finish_rises, entry_at, tail_rises, lazy_goes, if_goes, while_goes, seq_goes, body_goes}, ValueKeeps.{number_goes, truth_goes, text_goes, prim_goes, this_goes, slot_goes, consume_goes}, Schedules.KeepsRegions, Waiting.slot_depth, Taken.TakeLaw}
 
 -- ---- levels above
 

@@ -1,28 +1,12 @@
 -- What the field of an origin held comes to the stack, if the field is written: it is taken from the field, or seen
 -- through the origin.
 use Rattle.std.specs.Prelude.{◌≡◌, ◌⊎◌, ℕ, ◌+◌, ◌<◌, ◌≤◌, Bool, true, false, ◌&&◌, Some, nat_eq, refl}
-use Rattle.std.proofs.Common.{inl, inr, ap, sym, subst, ◌∙◌, arith}
-use Rattle.std.proofs.lemmas.Bool.{cases_eq, eq-eqb, ne_eqb, and_right, and_left}
-use Rattle.std.proofs.lemmas.Option.{same_Some, none-some}
-use Rattle.pc_heap.specs.Objects.{ObjectMap}
-use Rattle.pc_heap.specs.declared.value.Address.{Address}
-use Rattle.pc_heap.specs.declared.value.Value.{Value}
-use Rattle.pc_heap.specs.declared.value.Value.TheVariants.{Num, Truth, Text, Prim, At}
-use Rattle.pc_caps.specs.Tables.{at, unalias, taken}
-use Rattle.pc_caps.specs.Computed.{may_write}
-use Rattle.pc_caps.specs.declared.capability.Cap.{Cap}
+use Rattle.std.proofs.{Common.{inl, inr, ap, sym, subst, ◌∙◌, arith}, lemmas.Bool.{cases_eq, eq-eqb, ne_eqb, and_right, and_left}, lemmas.Option.{same_Some, none-some}}
+use Rattle.pc_heap.specs.{Objects.ObjectMap, declared.value.Address.Address, declared.value.Value.Value, declared.value.Value.TheVariants.{Num, Truth, Text, Prim, At}}
+use Rattle.pc_caps.specs.{Tables.{at, unalias, taken}, Computed.may_write, declared.capability.Cap.Cap, declared.capability.Form.Form}
 use Rattle.pc_caps.specs.declared.capability.Cap.TheVariants as cap
-use Rattle.pc_caps.specs.declared.capability.Form.{Form}
 use Rattle.pc_caps.specs.declared.capability.Form.TheVariants as form
-use Rattle.pc_regions.proofs.World.{Place, InSlot, OnStack, InField, InMail, Held, Child, World, FitsIn, Fits, AliasIn, Alias, WorldOk}
-use Rattle.pc_regions.proofs.Fitting.{OpenedTo}
-use Rattle.pc_regions.proofs.Changes.{Shifts}
-use Rattle.pc_regions.proofs.FieldSeen.{let_go, seen_through}
-use Rattle.pc_regions.proofs.GivenUp.{taken_views, field_free}
-use Rattle.pc_regions.proofs.OriginApart.{origin_apart}
-use Rattle.pc_regions.proofs.FieldWritten.{address_is}
-use Rattle.pc_regions.proofs.Shifts.{shifts_none}
-use Rattle.pc_regions.proofs.Taken.{TakeLaw}
+use Rattle.pc_regions.proofs.{World.{Place, InSlot, OnStack, InField, InMail, Held, Child, World, FitsIn, Fits, AliasIn, Alias, WorldOk}, Fitting.OpenedTo, Changes.Shifts, FieldSeen.{let_go, seen_through}, GivenUp.{taken_views, field_free}, OriginApart.origin_apart, FieldWritten.address_is, Shifts.shifts_none, Taken.TakeLaw}
 
 -- ---- forms
 

@@ -1,21 +1,12 @@
 -- A value that may be written into a field of an origin is near enough, and the field is where it may land.
-use Rattle.std.specs.Prelude.{◌≡◌, ◌⊎◌, ℕ, ◌+◌, ◌<◌, true, Some}
-use Rattle.std.specs.FinMap.{get}
-use Rattle.std.proofs.Common.{inl, inr, ap, sym, subst, ◌∙◌, arith}
-use Rattle.std.proofs.lemmas.Bool.{and_parts}
-use Rattle.pc_heap.specs.Objects.{ObjectMap, Object}
-use Rattle.pc_heap.specs.declared.value.Address.{Address}
-use Rattle.pc_caps.specs.Tables.{unalias, enters}
-use Rattle.pc_caps.specs.Computed.{fits, may_write}
-use Rattle.pc_caps.specs.declared.capability.Cap.{Cap}
+use Rattle.std.specs.{Prelude.{◌≡◌, ◌⊎◌, ℕ, ◌+◌, ◌<◌, true, Some}, FinMap.get}
+use Rattle.std.proofs.{Common.{inl, inr, ap, sym, subst, ◌∙◌, arith}, lemmas.Bool.and_parts}
+use Rattle.pc_heap.specs.{Objects.{ObjectMap, Object}, declared.value.Address.Address}
+use Rattle.pc_caps.specs.{Tables.{unalias, enters}, Computed.{fits, may_write}, declared.capability.Cap.Cap, declared.capability.Form.Form}
 use Rattle.pc_caps.specs.declared.capability.Cap.TheVariants as cap
-use Rattle.pc_caps.specs.declared.capability.Form.{Form}
 use Rattle.pc_caps.specs.declared.capability.Form.TheVariants as form
-use Rattle.pc_lists.proofs.Bools.{false_true}
-use Rattle.pc_regions.proofs.World.{Place, OnStack, InField, Opened, Held, Child, World, steady, Over, FitsIn, AliasIn, WorldOk}
-use Rattle.pc_regions.proofs.Settled.{Lands, Near, NearFrom}
-use Rattle.pc_regions.proofs.StandsOtherwise.{none_over_stack}
-use Rattle.pc_regions.proofs.Settling.{none_over_part}
+use Rattle.pc_base.proofs.Bools.{false_true}
+use Rattle.pc_regions.proofs.{World.{Place, OnStack, InField, Opened, Held, Child, World, steady, Over, FitsIn, AliasIn, WorldOk}, Settled.{Lands, Near, NearFrom}, StandsOtherwise.none_over_stack, Settling.none_over_part}
 
 module _ (w : World) (objects : ObjectMap) (count i base d : ℕ) (ok : WorldOk w objects count) (here : i < count) (top : w.top i ≡ base + d) (h n : ℕ) (a : Address) (j : ℕ) where
   abbrev r : ℕ

@@ -1,34 +1,14 @@
 -- A field is written: how the world changes from the origin, which is let go, to the old value, which is then where the
 -- new one was.
-use Rattle.std.specs.Prelude.{◌≡◌, ◌≢◌, ℕ, suc, ◌+◌, ◌<◌, ◌≤◌, Bool, true, false, Option, Some, None, refl}
-use Rattle.std.specs.FinMap.{get}
+use Rattle.std.specs.{Prelude.{◌≡◌, ◌≢◌, ℕ, suc, ◌+◌, ◌<◌, ◌≤◌, Bool, true, false, Option, Some, None, refl}, FinMap.get}
 use Rattle.std.proofs.Common.{inl, inr, ap, sym, subst, ◌∙◌, arith}
-use Rattle.pc_heap.specs.Objects.{ObjectMap, Object}
-use Rattle.pc_heap.specs.declared.value.Address.{Address}
-use Rattle.pc_heap.specs.declared.value.Value.{Value}
-use Rattle.pc_heap.specs.declared.value.Value.TheVariants.{At}
-use Rattle.pc_caps.specs.Computed.{is_below, may_write}
-use Rattle.pc_caps.specs.Tables.{unalias, taken}
-use Rattle.pc_caps.specs.declared.capability.Cap.{Cap}
-use Rattle.pc_caps.specs.declared.capability.Form.{Form}
+use Rattle.pc_heap.specs.{Objects.{ObjectMap, Object}, declared.value.Address.Address, declared.value.Value.Value, declared.value.Value.TheVariants.At}
+use Rattle.pc_caps.specs.{Computed.{is_below, may_write}, Tables.{unalias, taken}, declared.capability.Cap.Cap, declared.capability.Form.Form}
 use Rattle.pc_caps.specs.declared.capability.Form.TheVariants as form
 use Rattle.pc_core.specs.CoreData.{CoreData}
 use Rattle.pc_ann.specs.declared.annotation.Ann.{Ann}
 use Rattle.pc_valid.specs.Words.{Ty}
-use Rattle.pc_regions.proofs.World.{Place, InSlot, OnStack, InField, InMail, Child, World, home, Fits, FitsSome, Alias, AliasSome, WorldOk}
-use Rattle.pc_regions.proofs.Fitting.{OpenedTo}
-use Rattle.pc_regions.proofs.MoveFits.{elsewhere}
-use Rattle.pc_regions.proofs.Changes.{Shifts}
-use Rattle.pc_regions.proofs.Settled.{NearFrom, Near, SettleLaw}
-use Rattle.pc_regions.proofs.CallerKept.{from_elsewhere}
-use Rattle.pc_regions.proofs.FieldDrawn.{writer, fits_along, taken_alias, the_field, Through, draw}
-use Rattle.pc_regions.proofs.FieldLands.{field_near, field_lands}
-use Rattle.pc_regions.proofs.FieldSeen.{let_go, origin_leaves}
-use Rattle.pc_regions.proofs.Calm.{Calm}
-use Rattle.pc_regions.proofs.ArgumentsSettle.{the_place, the_place_is, from_place, other_place, one_later, near_home, PassedOne, pass_near}
-use Rattle.pc_regions.proofs.Shifts.{lower_shift, wider, shifts_then}
-use Rattle.pc_regions.proofs.ControlKeeps.{same_below}
-use Rattle.pc_regions.proofs.Taken.{TakeLaw}
+use Rattle.pc_regions.proofs.{World.{Place, InSlot, OnStack, InField, InMail, Child, World, home, Fits, FitsSome, Alias, AliasSome, WorldOk}, Fitting.OpenedTo, MoveFits.elsewhere, Changes.Shifts, Settled.{NearFrom, Near, SettleLaw}, CallerKept.from_elsewhere, FieldDrawn.{writer, fits_along, taken_alias, the_field, Through, draw}, FieldLands.{field_near, field_lands}, FieldSeen.{let_go, origin_leaves}, Calm.Calm, ArgumentsSettle.{the_place, the_place_is, from_place, other_place, one_later, near_home, PassedOne, pass_near}, Shifts.{lower_shift, wider, shifts_then}, ControlKeeps.same_below, Taken.TakeLaw}
 
 -- ---- places that are left
 

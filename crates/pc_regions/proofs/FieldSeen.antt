@@ -1,22 +1,11 @@
 -- What is seen of a field through an origin, by regions. An origin that no place holds was let go before: it is an alias then.
 use Rattle.std.specs.Prelude.{◌≡◌, ℕ, ◌+◌, ◌<◌, ◌≤◌, Bool, true, Some, refl}
-use Rattle.std.proofs.Common.{ap, sym, subst, ◌∙◌, arith}
-use Rattle.std.proofs.lemmas.Option.{same_Some, none-some}
-use Rattle.pc_heap.specs.Objects.{ObjectMap}
-use Rattle.pc_heap.specs.declared.value.Address.{Address}
-use Rattle.pc_heap.specs.declared.value.Value.{Value}
-use Rattle.pc_heap.specs.declared.value.Value.TheVariants.{Num, Truth, Text, Prim, At}
-use Rattle.pc_caps.specs.Computed.{is_below}
-use Rattle.pc_caps.specs.Tables.{unalias, view}
-use Rattle.pc_caps.specs.declared.capability.Cap.{Cap}
+use Rattle.std.proofs.{Common.{ap, sym, subst, ◌∙◌, arith}, lemmas.Option.{same_Some, none-some}}
+use Rattle.pc_heap.specs.{Objects.ObjectMap, declared.value.Address.Address, declared.value.Value.Value, declared.value.Value.TheVariants.{Num, Truth, Text, Prim, At}}
+use Rattle.pc_caps.specs.{Computed.is_below, Tables.{unalias, view}, declared.capability.Cap.Cap, declared.capability.Form.Form}
 use Rattle.pc_caps.specs.declared.capability.Cap.TheVariants as cap
-use Rattle.pc_caps.specs.declared.capability.Form.{Form}
 use Rattle.pc_caps.specs.declared.capability.Form.TheVariants as form
-use Rattle.pc_regions.proofs.World.{Place, OnStack, InField, Held, Child, World, Frozen, in_ice, under_ice, Seen, same, under, frozen, Over, over_own, over_field, over_part, FitsIn, Fits, AliasIn, Alias, WorldOk}
-use Rattle.pc_regions.proofs.Fitting.{OpenedTo}
-use Rattle.pc_regions.proofs.Settled.{Settled, SettleLaw}
-use Rattle.pc_regions.proofs.SlotSeen.{no_role, child_shut, held_shut, held_no_part}
-use Rattle.pc_regions.proofs.Climbing.{near_same, seen_cold}
+use Rattle.pc_regions.proofs.{World.{Place, OnStack, InField, Held, Child, World, Frozen, in_ice, under_ice, Seen, same, under, frozen, Over, over_own, over_field, over_part, FitsIn, Fits, AliasIn, Alias, WorldOk}, Fitting.OpenedTo, Settled.{Settled, SettleLaw}, SlotSeen.{no_role, child_shut, held_shut, held_no_part}, Climbing.{near_same, seen_cold}}
 
 -- What is seen from what is seen is seen.
 pub seen_far : (w : World) (p r : ℕ) {q : ℕ} → Seen w p r → Seen w r q → Seen w p q

@@ -1,20 +1,11 @@
 -- A field is written: the same world fits the objects with the value, if the value fits the field.
-use Rattle.std.specs.Prelude.{◌≡◌, ◌⊎◌, ℕ, ◌<◌, length, Option, Some, None, slice_get, slice_set, refl}
-use Rattle.std.specs.FinMap.{get}
-use Rattle.std.proofs.Common.{inl, inr, ap, sym, subst, ◌∙◌, length-set}
-use Rattle.std.proofs.lemmas.Bool.{cases_eq}
-use Rattle.std.proofs.lemmas.Option.{same_Some, none-some}
-use Rattle.pc_heap.specs.Objects.{ObjectMap, with_field, with_value, Object}
-use Rattle.pc_heap.specs.Parts.{object_in}
-use Rattle.pc_heap.specs.declared.value.Address.{Address}
-use Rattle.pc_heap.specs.declared.value.Value.{Value}
-use Rattle.pc_lists.proofs.Gets.{get_below, get_set_same, get_set_other}
+use Rattle.std.specs.{Prelude.{◌≡◌, ◌⊎◌, ℕ, ◌<◌, length, Option, Some, None, slice_get, slice_set, refl}, FinMap.get}
+use Rattle.std.proofs.{Common.{inl, inr, ap, sym, subst, ◌∙◌, length-set}, lemmas.Bool.cases_eq, lemmas.Option.{same_Some, none-some}}
+use Rattle.pc_heap.specs.{Objects.{ObjectMap, with_field, with_value, Object}, Parts.object_in, declared.value.Address.Address, declared.value.Value.Value}
+use Rattle.pc_base.proofs.Gets.{get_below, get_set_same, get_set_other}
 use Rattle.pc_caps.specs.Tables.{unalias}
-use Rattle.pc_core.specs.declared.declarations.EntityDef.{EntityDef}
-use Rattle.pc_core.specs.declared.declarations.FieldInfo.{FieldInfo}
-use Rattle.pc_core.specs.CoreData.{CoreData}
-use Rattle.pc_regions.proofs.World.{World, InField, Unused, Fits, WorldOk}
-use Rattle.pc_regions.proofs.Fitting.{FieldsFit}
+use Rattle.pc_core.specs.{declared.declarations.EntityDef.EntityDef, declared.declarations.FieldInfo.FieldInfo, CoreData.CoreData}
+use Rattle.pc_regions.proofs.{World.{World, InField, Unused, Fits, WorldOk}, Fitting.FieldsFit}
 use Rattle.pc_types.proofs.Heaps.{get_here, put_or_before, put_stays}
 
 abbrev address : ℕ → ℕ → Address

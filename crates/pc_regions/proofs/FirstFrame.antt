@@ -1,30 +1,17 @@
 -- The frame of a method that begins fits by regions if `this` and the arguments do; and a message fits if its arguments
 -- do.
 use Rattle.std.specs.Prelude.{◌≡◌, ◌≢◌, ℕ, zero, suc, ◌+◌, ◌-◌, ◌<◌, List, [], ◌∷◌, ◌++◌, map, length, replicate, Option, Some, None, slice_get, refl}
-use Rattle.std.proofs.Common.{ap, sym, subst, ◌∙◌, arith}
-use Rattle.std.proofs.lemmas.Option.{same_Some, none-some}
+use Rattle.std.proofs.{Common.{ap, sym, subst, ◌∙◌, arith}, lemmas.Option.{same_Some, none-some}}
 use Rattle.pc_heap.specs.declared.value.Value.{Value}
-use Rattle.pc_caps.specs.Tables.{unalias}
-use Rattle.pc_lists.proofs.Gets.{get_within}
-use Rattle.pc_caps.specs.declared.capability.Cap.{Cap}
-use Rattle.pc_core.specs.declared.declarations.Method.{Method}
-use Rattle.pc_core.specs.declared.declarations.ParamInfo.{ParamInfo}
-use Rattle.pc_core.specs.declared.nodes.Slot.{Slot}
-use Rattle.pc_core.specs.CoreData.{CoreData}
-use Rattle.pc_lists.proofs.Options.{bind_some}
-use Rattle.pc_core.specs.Entities.{this_slot, param_slot}
+use Rattle.pc_caps.specs.{Tables.unalias, declared.capability.Cap.Cap}
+use Rattle.pc_base.proofs.{Gets.get_within, Options.bind_some}
+use Rattle.pc_core.specs.{declared.declarations.Method.Method, declared.declarations.ParamInfo.ParamInfo, declared.nodes.Slot.Slot, CoreData.CoreData, Entities.{this_slot, param_slot}}
 use Rattle.pc_ann.specs.declared.annotation.Ann.{Ann}
-use Rattle.pc_masks.specs.Masks.{first}
-use Rattle.pc_masks.specs.MaskLaws.{first_bits}
+use Rattle.pc_masks.specs.{Masks.first, MaskLaws.first_bits}
 use Rattle.pc_semantics.specs.Parts.{first_slots}
 use Rattle.pc_rules.proofs.ByNumber.{slot_of}
-use Rattle.pc_regions.proofs.World.{World, Place, InSlot, InMail, Fits}
-use Rattle.pc_regions.proofs.StackForms.{BodyRises, SlotsShallow}
-use Rattle.pc_regions.proofs.Fitting.{ThisFits, SlotsFit, Holds, Active, OpenedTo, MessageFits}
-use Rattle.pc_types.proofs.Needs.{Needs}
-use Rattle.pc_types.proofs.Needed.{first_own, param_own}
-use Rattle.pc_types.proofs.Notes.{slot_at}
-use Rattle.pc_types.proofs.Begin.{begin_ok}
+use Rattle.pc_regions.proofs.{World.{World, Place, InSlot, InMail, Fits}, StackForms.{BodyRises, SlotsShallow}, Fitting.{ThisFits, SlotsFit, Holds, Active, OpenedTo, MessageFits}}
+use Rattle.pc_types.proofs.{Needs.Needs, Needed.{first_own, param_own}, Notes.slot_at, Begin.begin_ok}
 
 -- The arguments, each at its place, fit the parameters.
 abbrev pub ArgumentsAt : World → (ℕ → Place) → List ParamInfo → List Value → Type 0

@@ -1,33 +1,18 @@
 -- When values fit their places by regions: those of frames, of objects and of waiting messages. A configuration has
 -- regions if some world makes all of them fit.
-use Rattle.std.specs.Prelude.{◌≡◌, ◌⊎◌, ℕ, suc, ◌+◌, ◌<◌, ◌≤◌, true, false, List, [], ◌∷◌, length, Option, Some, None, slice_get}
-use Rattle.std.specs.FinMap.{get}
-use Rattle.pc_heap.specs.Objects.{ObjectMap, Object}
-use Rattle.pc_heap.specs.declared.value.Address.{Address}
-use Rattle.pc_heap.specs.declared.value.Value.{Value}
-use Rattle.pc_caps.specs.Tables.{unalias, sendable_form}
-use Rattle.pc_caps.specs.declared.capability.Cap.{Cap}
-use Rattle.pc_core.specs.declared.declarations.EntityDef.{EntityDef}
-use Rattle.pc_core.specs.declared.declarations.FieldInfo.{FieldInfo}
-use Rattle.pc_core.specs.declared.declarations.Method.{Method}
-use Rattle.pc_core.specs.declared.declarations.MethodKind.{MethodKind}
+use Rattle.std.specs.{Prelude.{◌≡◌, ◌⊎◌, ℕ, suc, ◌+◌, ◌<◌, ◌≤◌, true, false, List, [], ◌∷◌, length, Option, Some, None, slice_get}, FinMap.get}
+use Rattle.pc_heap.specs.{Objects.{ObjectMap, Object}, declared.value.Address.Address, declared.value.Value.Value}
+use Rattle.pc_caps.specs.{Tables.{unalias, sendable_form}, declared.capability.Cap.Cap}
+use Rattle.pc_core.specs.{declared.declarations.EntityDef.EntityDef, declared.declarations.FieldInfo.FieldInfo, declared.declarations.Method.Method, declared.declarations.MethodKind.MethodKind, declared.declarations.ParamInfo.ParamInfo, declared.nodes.Slot.Slot, CoreData.CoreData}
 use Rattle.pc_core.specs.declared.declarations.MethodKind.TheVariants as method
-use Rattle.pc_core.specs.declared.declarations.ParamInfo.{ParamInfo}
-use Rattle.pc_core.specs.declared.nodes.Slot.{Slot}
-use Rattle.pc_core.specs.CoreData.{CoreData}
-use Rattle.pc_masks.specs.declared.mask.Mask.{Mask}
+use Rattle.pc_masks.specs.{declared.mask.Mask.Mask, Masks.IsInMask}
 use Rattle.pc_ann.specs.declared.annotation.Ann.{Ann}
-use Rattle.pc_masks.specs.Masks.{IsInMask}
-use Rattle.pc_semantics.specs.declared.actors.Actor.{Actor}
-use Rattle.pc_semantics.specs.declared.frames.Frame.{Frame}
-use Rattle.pc_semantics.specs.declared.mailbox.Message.{Message}
-use Rattle.pc_semantics.specs.Configurations.{Configuration}
+use Rattle.pc_semantics.specs.{declared.actors.Actor.Actor, declared.frames.Frame.Frame, declared.mailbox.Message.Message, Configurations.Configuration}
 use Rattle.pc_sub.specs.Declarations.{isolates}
 use Rattle.pc_valid.specs.Words.{Ty}
 use Rattle.pc_rules.proofs.ByNumber.{slot_of}
 use Rattle.pc_types.proofs.Tasks.{Within}
-use Rattle.pc_regions.proofs.World.{World, Frozen, Opened, InSlot, OnStack, InField, InMail, Fits, FitsSome, AliasSome, Over, WorldOk}
-use Rattle.pc_regions.proofs.StackForms.{Entry, Shallow, Below, Ascent, Climbs, top_of, SlotsShallow, TasksRise, uses_top}
+use Rattle.pc_regions.proofs.{World.{World, Frozen, Opened, InSlot, OnStack, InField, InMail, Fits, FitsSome, AliasSome, Over, WorldOk}, StackForms.{Entry, Shallow, Below, Ascent, Climbs, top_of, SlotsShallow, TasksRise, uses_top}}
 
 -- ---- one frame, of actor i, with h frames below it
 

@@ -1,61 +1,23 @@
 -- A call of a function, by regions: the receiver and the arguments settle in the slots of the frame that begins.
 use Rattle.std.specs.Prelude.{◌≡◌, ◌≢◌, ℕ, suc, ◌+◌, ◌-◌, ◌<◌, ◌≤◌, Bool, true, false, ◌&&◌, ◌||◌, cond, List, [], ◌∷◌, ◌++◌, length, Option, Some, None, nat_eq, nat_lt, refl}
-use Rattle.std.proofs.Common.{inl, inr, ap, sym, subst, ◌∙◌, arith}
-use Rattle.std.proofs.lemmas.Bool.{eq-eqb, ne_eqb, le-ltb, or_from, and_right}
-use Rattle.pc_heap.specs.Objects.{ObjectMap}
-use Rattle.pc_heap.specs.declared.value.Address.{Address}
-use Rattle.pc_heap.specs.declared.value.Value.{Value}
-use Rattle.pc_heap.specs.declared.value.Value.TheVariants.{Num, Truth, Text, Prim, At}
-use Rattle.pc_caps.specs.Computed.{is_below}
-use Rattle.pc_caps.specs.Closure.{below_iff}
-use Rattle.pc_caps.specs.Tables.{unalias, sendable_form}
-use Rattle.pc_caps.specs.declared.capability.Cap.{Cap}
+use Rattle.std.proofs.{Common.{inl, inr, ap, sym, subst, ◌∙◌, arith}, lemmas.Bool.{eq-eqb, ne_eqb, le-ltb, or_from, and_right}}
+use Rattle.pc_heap.specs.{Objects.ObjectMap, declared.value.Address.Address, declared.value.Value.Value, declared.value.Value.TheVariants.{Num, Truth, Text, Prim, At}}
+use Rattle.pc_caps.specs.{Computed.is_below, Closure.below_iff, Tables.{unalias, sendable_form}, declared.capability.Cap.Cap, declared.capability.Form.Form}
 use Rattle.pc_caps.specs.declared.capability.Cap.TheVariants as cap
-use Rattle.pc_caps.specs.declared.capability.Form.{Form}
 use Rattle.pc_caps.specs.declared.capability.Form.TheVariants as form
-use Rattle.pc_core.specs.declared.declarations.Method.{Method}
-use Rattle.pc_core.specs.declared.declarations.MethodKind.{MethodKind}
+use Rattle.pc_core.specs.{declared.declarations.Method.Method, declared.declarations.MethodKind.MethodKind, declared.nodes.NodeKind.NodeKind, CoreData.CoreData}
 use Rattle.pc_core.specs.declared.declarations.MethodKind.TheVariants as method
-use Rattle.pc_core.specs.declared.nodes.NodeKind.{NodeKind}
 use Rattle.pc_core.specs.declared.nodes.NodeKind.TheVariants as nodes
-use Rattle.pc_core.specs.CoreData.{CoreData}
 use Rattle.pc_masks.specs.declared.mask.Mask.{Mask}
 use Rattle.pc_ann.specs.declared.annotation.Ann.{Ann}
-use Rattle.pc_semantics.specs.declared.frames.Frame.{Frame}
-use Rattle.pc_semantics.specs.declared.frames.Task.{Task}
+use Rattle.pc_semantics.specs.{declared.frames.Frame.Frame, declared.frames.Task.Task, Configurations.{Around, first_frame, with_stack, popped}, Calls.invoke_task}
 use Rattle.pc_semantics.specs.declared.frames.Task.TheVariants as task
-use Rattle.pc_semantics.specs.Configurations.{Around, first_frame, with_stack, popped}
-use Rattle.pc_semantics.specs.Calls.{invoke_task}
-use Rattle.pc_rules.specs.Parts.{type_of}
+use Rattle.pc_rules.specs.{Parts.type_of, Calls.{is_isolated, is_lent, recovered_result}}
 use Rattle.pc_valid.specs.Words.{Ty}
-use Rattle.pc_rules.specs.Calls.{is_isolated, is_lent, recovered_result}
 use Rattle.pc_rules.proofs.ByNumber.{arguments}
-use Rattle.pc_lists.proofs.Bools.{false_true}
-use Rattle.pc_types.proofs.Types.{OfKind}
-use Rattle.pc_types.proofs.Tasks.{FinishOk, invokes, TasksOk}
-use Rattle.pc_types.proofs.Moves.{Runs}
-use Rattle.pc_regions.proofs.World.{Place, InSlot, OnStack, World, home, same, Over, over_part, FitsIn, Fits, FitsSome, Alias, AliasIn, AliasSome, WorldOk}
-use Rattle.pc_regions.proofs.StackForms.{Entry, Shallow, FinishRises, TasksRise, Below, piled}
-use Rattle.pc_regions.proofs.Fitting.{StackFits, Entered, OpenedTo, GoesTo, SendableSome, TopAlias, FieldsFit}
-use Rattle.pc_regions.proofs.MoveFits.{Others, Turned, Situated, RegionMoveOk}
-use Rattle.pc_regions.proofs.Changes.{lent, Shifts}
-use Rattle.pc_regions.proofs.Settled.{SettleLaw}
-use Rattle.pc_regions.proofs.ContextLaws.{higher, LentLaw}
-use Rattle.pc_types.proofs.Needs.{Needs}
-use Rattle.pc_types.proofs.Values.{own_no_trait}
-use Rattle.pc_types.proofs.InverseCalls.{CalledRule}
-use Rattle.pc_types.proofs.Popped.{popped_is, receiver_last, arguments_count}
-use Rattle.pc_types.proofs.Callers.{counts, not_print}
-use Rattle.pc_types.proofs.InvokeTask.{no_behaviour, Received, received}
-use Rattle.pc_regions.proofs.Shifts.{shifts_both, lower_shift}
-use Rattle.pc_regions.proofs.CallForms.{CallRule, LendRule}
-use Rattle.pc_regions.proofs.Arguments.{ArgumentsStand, Pulled, pull, pulled_is, piled_last, stands_below}
-use Rattle.pc_regions.proofs.FirstFrame.{ArgumentsAt}
-use Rattle.pc_regions.proofs.Calm.{calm_wider, calm_both, calm_same}
-use Rattle.pc_regions.proofs.ArgumentsSettle.{lower_still, near_home, the_place, from_place, one_later, PassedOne, pass_near, pass_all, stand_under}
-use Rattle.pc_regions.proofs.CallerKept.{from_elsewhere, from_lower, from_under, Rests, LeftAbove, live_left, follows_at, fields_on, others_on, rests_on, fields_low, others_low, rests_low}
-use Rattle.pc_regions.proofs.CallBegins.{finish_at, enters_frames}
-use Rattle.pc_regions.proofs.Rising.{higher_elsewhere}
+use Rattle.pc_base.proofs.Bools.{false_true}
+use Rattle.pc_types.proofs.{Types.OfKind, Tasks.{FinishOk, invokes, TasksOk}, Moves.Runs, Needs.Needs, Values.own_no_trait, InverseCalls.CalledRule, Popped.{popped_is, receiver_last, arguments_count}, Callers.{counts, not_print}, InvokeTask.{no_behaviour, Received, received}}
+use Rattle.pc_regions.proofs.{World.{Place, InSlot, OnStack, World, home, same, Over, over_part, FitsIn, Fits, FitsSome, Alias, AliasIn, AliasSome, WorldOk}, StackForms.{Entry, Shallow, FinishRises, TasksRise, Below, piled}, Fitting.{StackFits, Entered, OpenedTo, GoesTo, SendableSome, TopAlias, FieldsFit}, MoveFits.{Others, Turned, Situated, RegionMoveOk}, Changes.{lent, Shifts}, Settled.SettleLaw, ContextLaws.{higher, LentLaw}, Shifts.{shifts_both, lower_shift}, CallForms.{CallRule, LendRule}, Arguments.{ArgumentsStand, Pulled, pull, pulled_is, piled_last, stands_below}, FirstFrame.ArgumentsAt, Calm.{calm_wider, calm_both, calm_same}, ArgumentsSettle.{lower_still, near_home, the_place, from_place, one_later, PassedOne, pass_near, pass_all, stand_under}, CallerKept.{from_elsewhere, from_lower, from_under, Rests, LeftAbove, live_left, follows_at, fields_on, others_on, rests_on, fields_low, others_low, rests_low}, CallBegins.{finish_at, enters_frames}, Rising.higher_elsewhere}
 
 -- ---- what was on the stack
 

@@ -1,51 +1,19 @@
 -- The task Get, by regions: the origin is let go, and what its field holds is pushed.
 use Rattle.std.specs.Prelude.{◌≡◌, ℕ, suc, ◌+◌, true, List, [], ◌∷◌, length, Option, Some, slice_get, refl}
-use Rattle.std.proofs.Common.{ap, sym, subst, ◌∙◌, arith}
-use Rattle.std.proofs.lemmas.Bool.{eq-eqb, lt-ltb}
-use Rattle.std.proofs.lemmas.Option.{same_Some}
-use Rattle.pc_heap.specs.declared.value.Value.{Value}
-use Rattle.pc_heap.specs.declared.value.Value.TheVariants.{At}
-use Rattle.pc_caps.specs.Tables.{unalias}
-use Rattle.pc_caps.specs.declared.capability.Cap.{Cap}
+use Rattle.std.proofs.{Common.{ap, sym, subst, ◌∙◌, arith}, lemmas.Bool.{eq-eqb, lt-ltb}, lemmas.Option.same_Some}
+use Rattle.pc_heap.specs.{declared.value.Value.Value, declared.value.Value.TheVariants.At}
+use Rattle.pc_caps.specs.{Tables.unalias, declared.capability.Cap.Cap}
 use Rattle.pc_caps.specs.declared.capability.Form.TheVariants as form
-use Rattle.pc_core.specs.declared.declarations.FieldInfo.{FieldInfo}
-use Rattle.pc_core.specs.declared.nodes.Node.{Node}
-use Rattle.pc_core.specs.declared.nodes.NodeKind.{NodeKind}
+use Rattle.pc_core.specs.{declared.declarations.FieldInfo.FieldInfo, declared.nodes.Node.Node, declared.nodes.NodeKind.NodeKind, Nodes.HasArity, CoreData.CoreData}
 use Rattle.pc_core.specs.declared.nodes.NodeKind.TheVariants as nodes
-use Rattle.pc_core.specs.Nodes.{HasArity}
-use Rattle.pc_core.specs.CoreData.{CoreData}
 use Rattle.pc_masks.specs.declared.mask.Mask.{Mask}
-use Rattle.pc_ann.specs.declared.annotation.Note.{Note}
-use Rattle.pc_ann.specs.declared.annotation.Ann.{Ann}
-use Rattle.pc_semantics.specs.declared.frames.Frame.{Frame}
+use Rattle.pc_ann.specs.{declared.annotation.Note.Note, declared.annotation.Ann.Ann}
+use Rattle.pc_semantics.specs.{declared.frames.Frame.Frame, Configurations.{Around, Goes, with_stack, pushed}, Parts.at_node, Calls.get_task}
 use Rattle.pc_semantics.specs.declared.frames.Task.TheVariants as task
-use Rattle.pc_semantics.specs.Configurations.{Around, Goes, with_stack, pushed}
-use Rattle.pc_semantics.specs.Parts.{at_node}
-use Rattle.pc_semantics.specs.Calls.{get_task}
 use Rattle.pc_rules.specs.Parts.{through, type_of}
 use Rattle.pc_valid.specs.Words.{Ty, Masks, before}
-use Rattle.pc_types.proofs.Types.{OfType, OfSome}
-use Rattle.pc_types.proofs.Tasks.{reads, FinishOk, TasksOk}
-use Rattle.pc_types.proofs.Moves.{Runs}
-use Rattle.pc_regions.proofs.World.{World, InSlot, OnStack, InField, Fits, FitsSome, Alias, AliasSome}
-use Rattle.pc_regions.proofs.StackForms.{Entry, piled, FinishRises, TasksRise}
-use Rattle.pc_regions.proofs.Fitting.{StackFits}
-use Rattle.pc_regions.proofs.MoveFits.{RegionMoveOk, Situated}
-use Rattle.pc_regions.proofs.Changes.{Shifts}
-use Rattle.pc_regions.proofs.Climbed.{ClimbLaw}
-use Rattle.pc_regions.proofs.Settled.{SettleLaw}
-use Rattle.pc_types.proofs.Needs.{Needs}
-use Rattle.pc_types.proofs.Inverse.{Says}
-use Rattle.pc_types.proofs.Finish.{rule_is}
-use Rattle.pc_types.proofs.Origins.{Origin}
-use Rattle.pc_types.proofs.GetTask.{GetRule, OwnGetRule, only_last, get_kind}
-use Rattle.pc_regions.proofs.Accesses.{top_fits, constructor_ref}
-use Rattle.pc_regions.proofs.FieldSeen.{let_go, let_go_sees, let_go_iso, let_go_trn, value_seen, origin_leaves}
-use Rattle.pc_regions.proofs.Calm.{calm_same}
-use Rattle.pc_regions.proofs.ArgumentsSettle.{from_place}
-use Rattle.pc_regions.proofs.CallerKept.{live_left, follows_at, others_on, fields_on, pushes_on}
-use Rattle.pc_regions.proofs.Rising.{Pushes, rise, others_both}
-use Rattle.pc_regions.proofs.Schedules.{KeepsRegions}
+use Rattle.pc_types.proofs.{Types.{OfType, OfSome}, Tasks.{reads, FinishOk, TasksOk}, Moves.Runs, Needs.Needs, Inverse.Says, Finish.rule_is, Origins.Origin, GetTask.{GetRule, OwnGetRule, only_last, get_kind}}
+use Rattle.pc_regions.proofs.{World.{World, InSlot, OnStack, InField, Fits, FitsSome, Alias, AliasSome}, StackForms.{Entry, piled, FinishRises, TasksRise}, Fitting.StackFits, MoveFits.{RegionMoveOk, Situated}, Changes.Shifts, Climbed.ClimbLaw, Settled.SettleLaw, Accesses.{top_fits, constructor_ref}, FieldSeen.{let_go, let_go_sees, let_go_iso, let_go_trn, value_seen, origin_leaves}, Calm.calm_same, ArgumentsSettle.from_place, CallerKept.{live_left, follows_at, others_on, fields_on, pushes_on}, Rising.{Pushes, rise, others_both}, Schedules.KeepsRegions}
 
 no_iso : form.Ref ≡ form.IsoE → ⊥
 no_iso e = cc

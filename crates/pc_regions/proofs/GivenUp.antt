@@ -1,18 +1,11 @@
 -- What is given up by a field that is written, through an alias of its object.
 use Rattle.std.specs.Prelude.{◌≡◌, ◌⊎◌, ℕ, ◌+◌, ◌<◌, ◌≤◌, Some, refl}
-use Rattle.std.proofs.Common.{inl, inr, ap, sym, subst, ◌∙◌, arith}
-use Rattle.std.proofs.lemmas.Option.{same_Some, none-some}
-use Rattle.pc_heap.specs.Objects.{ObjectMap}
-use Rattle.pc_heap.specs.declared.value.Address.{Address}
-use Rattle.pc_caps.specs.Tables.{unalias, view, taken}
-use Rattle.pc_caps.specs.declared.capability.Cap.{Cap}
+use Rattle.std.proofs.{Common.{inl, inr, ap, sym, subst, ◌∙◌, arith}, lemmas.Option.{same_Some, none-some}}
+use Rattle.pc_heap.specs.{Objects.ObjectMap, declared.value.Address.Address}
+use Rattle.pc_caps.specs.{Tables.{unalias, view, taken}, declared.capability.Cap.Cap, declared.capability.Form.Form}
 use Rattle.pc_caps.specs.declared.capability.Cap.TheVariants as cap
-use Rattle.pc_caps.specs.declared.capability.Form.{Form}
 use Rattle.pc_caps.specs.declared.capability.Form.TheVariants as form
-use Rattle.pc_regions.proofs.World.{OnStack, InField, Child, World, Over, over_own, over_field, over_part, FitsIn, AliasIn, WorldOk}
-use Rattle.pc_regions.proofs.OneHolder.{over_is_of}
-use Rattle.pc_regions.proofs.StandsOtherwise.{one_level}
-use Rattle.pc_regions.proofs.Taken.{FreeIn, Takes}
+use Rattle.pc_regions.proofs.{World.{OnStack, InField, Child, World, Over, over_own, over_field, over_part, FitsIn, AliasIn, WorldOk}, OneHolder.over_is_of, StandsOtherwise.one_level, Taken.{FreeIn, Takes}}
 
 -- What is neither an `iso^` nor a `trn^` is given up as it is seen.
 pub taken_views : (o g : Form) (c : Cap) → taken o c ≡ Some g → (g ≡ form.IsoE → ⊥) → (g ≡ form.TrnE → ⊥) → view o c ≡ Some g

@@ -1,32 +1,15 @@
 -- If everything that stood still stands: other actors, fields, frames that wait and arguments fit as they did.
-use Rattle.std.specs.Prelude.{◌≡◌, ℕ, suc, ◌+◌, ◌<◌, ◌≤◌, true, List, [], ◌∷◌, length, Option, None, slice_get}
-use Rattle.std.specs.FinMap.{insert}
-use Rattle.std.proofs.Common.{inl, inr, ap, sym, subst, ◌∙◌, arith}
-use Rattle.std.proofs.lemmas.Bool.{ltb-true}
-use Rattle.pc_heap.specs.Objects.{ObjectMap, Object}
-use Rattle.pc_heap.specs.declared.value.Address.{Address}
-use Rattle.pc_heap.specs.declared.value.Value.{Value}
-use Rattle.pc_caps.specs.Tables.{unalias}
-use Rattle.pc_caps.specs.declared.capability.Form.{Form}
-use Rattle.pc_core.specs.declared.declarations.ParamInfo.{ParamInfo}
-use Rattle.pc_core.specs.CoreData.{CoreData}
+use Rattle.std.specs.{Prelude.{◌≡◌, ℕ, suc, ◌+◌, ◌<◌, ◌≤◌, true, List, [], ◌∷◌, length, Option, None, slice_get}, FinMap.insert}
+use Rattle.std.proofs.{Common.{inl, inr, ap, sym, subst, ◌∙◌, arith}, lemmas.Bool.ltb-true}
+use Rattle.pc_heap.specs.{Objects.{ObjectMap, Object}, declared.value.Address.Address, declared.value.Value.Value}
+use Rattle.pc_caps.specs.{Tables.unalias, declared.capability.Form.Form}
+use Rattle.pc_core.specs.{declared.declarations.ParamInfo.ParamInfo, CoreData.CoreData}
 use Rattle.pc_masks.specs.declared.mask.Mask.{Mask}
 use Rattle.pc_ann.specs.declared.annotation.Ann.{Ann}
-use Rattle.pc_semantics.specs.declared.frames.Frame.{Frame}
-use Rattle.pc_semantics.specs.Configurations.{blank_object}
-use Rattle.pc_semantics.specs.Parts.{number_of_fields}
-use Rattle.pc_lists.proofs.Bools.{false_true}
-use Rattle.pc_regions.proofs.World.{Place, InSlot, OnStack, InField, InMail, Opened, World, Over, Fits}
-use Rattle.pc_regions.proofs.StackForms.{Entry}
-use Rattle.pc_regions.proofs.Fitting.{FieldsFit}
-use Rattle.pc_regions.proofs.MoveFits.{elsewhere, among, Others}
-use Rattle.pc_types.proofs.Heaps.{put_or_before}
-use Rattle.pc_types.proofs.Made.{no_value}
-use Rattle.pc_regions.proofs.Waiting.{stack_fits, wait_kept}
-use Rattle.pc_regions.proofs.FirstFrame.{ArgumentsAt}
-use Rattle.pc_regions.proofs.CallerKept.{Rests}
-use Rattle.pc_regions.proofs.WorldGrows.{Known, Grows}
-use Rattle.pc_regions.proofs.Shifts.{no_more}
+use Rattle.pc_semantics.specs.{declared.frames.Frame.Frame, Configurations.blank_object, Parts.number_of_fields}
+use Rattle.pc_base.proofs.Bools.{false_true}
+use Rattle.pc_regions.proofs.{World.{Place, InSlot, OnStack, InField, InMail, Opened, World, Over, Fits}, StackForms.Entry, Fitting.FieldsFit, MoveFits.{elsewhere, among, Others}, Waiting.{stack_fits, wait_kept}, FirstFrame.ArgumentsAt, CallerKept.Rests, WorldGrows.{Known, Grows}, Shifts.no_more}
+use Rattle.pc_types.proofs.{Heaps.put_or_before, Made.no_value}
 
 module _ (w w' : World) (objects : ObjectMap) (count : ℕ) (x : Grows w w' objects count) where
   known_elsewhere : (i : ℕ) (p : Place) → elsewhere i p ≡ true → among count p ≡ true → Known objects count p

@@ -1,57 +1,24 @@
 -- The task Invoke, by regions: a function begins, a message is sent, or a text is pushed.
 use Rattle.std.specs.Prelude.{◌≡◌, ℕ, ◌+◌, ◌-◌, ◌<◌, ◌≤◌, true, List, ◌∷◌, length, Option, Some, None, decimal, refl}
-use Rattle.std.proofs.Common.{inl, inr, ap, sym, subst, ◌∙◌, arith}
-use Rattle.std.proofs.lemmas.Bool.{eq-eqb, lt-ltb}
-use Rattle.pc_heap.specs.Objects.{ObjectMap, class_at}
-use Rattle.pc_heap.specs.declared.value.Address.{Address}
-use Rattle.pc_heap.specs.declared.value.Value.{Value}
-use Rattle.pc_heap.specs.declared.value.Value.TheVariants.{Text}
+use Rattle.std.proofs.{Common.{inl, inr, ap, sym, subst, ◌∙◌, arith}, lemmas.Bool.{eq-eqb, lt-ltb}}
+use Rattle.pc_heap.specs.{Objects.{ObjectMap, class_at}, declared.value.Address.Address, declared.value.Value.Value, declared.value.Value.TheVariants.Text}
 use Rattle.pc_caps.specs.Tables.{unalias, sendable}
 use Rattle.pc_caps.specs.declared.capability.Form.TheVariants as form
-use Rattle.pc_core.specs.declared.declarations.MethodKind.{MethodKind}
+use Rattle.pc_core.specs.{declared.declarations.MethodKind.MethodKind, CoreData.{CoreData, method_named}}
 use Rattle.pc_core.specs.declared.declarations.MethodKind.TheVariants as method
 use Rattle.pc_core.specs.declared.nodes.NodeKind.TheVariants as nodes
-use Rattle.pc_core.specs.CoreData.{CoreData, method_named}
 use Rattle.pc_tree.specs.Kinds.{may_have_fields}
-use Rattle.pc_lists.specs.Lists.{Each}
+use Rattle.pc_base.specs.Lists.{Each}
 use Rattle.pc_masks.specs.declared.mask.Mask.{Mask}
 use Rattle.pc_ann.specs.declared.annotation.Ann.{Ann}
-use Rattle.pc_semantics.specs.declared.frames.Frame.{Frame}
+use Rattle.pc_semantics.specs.{declared.frames.Frame.Frame, Configurations.{Around, none, value_entity}, Calls.invoke_task, Parts.truth_text}
 use Rattle.pc_semantics.specs.declared.frames.Task.TheVariants as task
-use Rattle.pc_semantics.specs.Configurations.{Around, none, value_entity}
-use Rattle.pc_semantics.specs.Calls.{invoke_task}
-use Rattle.pc_semantics.specs.Parts.{truth_text}
 use Rattle.pc_sub.specs.Declarations.{takes_sendable}
 use Rattle.pc_rules.specs.Parts.{through, type_of}
 use Rattle.pc_valid.specs.Words.{Ty, Masks, before}
 use Rattle.pc_rules.proofs.ByNumber.{arguments}
-use Rattle.pc_types.proofs.Types.{OfKind, OfType, OfSome, Want, StackOk}
-use Rattle.pc_types.proofs.Tasks.{want_of, stacked, FinishOk, invokes, TasksOk}
-use Rattle.pc_types.proofs.Moves.{Runs}
-use Rattle.pc_regions.proofs.World.{InMail, OnStack, World, Fits, FitsSome, Alias, AliasSome}
-use Rattle.pc_regions.proofs.StackForms.{Entry, FinishRises, TasksRise, piled}
-use Rattle.pc_regions.proofs.Fitting.{StackFits}
-use Rattle.pc_regions.proofs.MoveFits.{Turned, Situated, RegionMoveOk}
-use Rattle.pc_regions.proofs.Settled.{SettleLaw}
-use Rattle.pc_regions.proofs.Climbed.{ClimbLaw}
-use Rattle.pc_regions.proofs.ContextLaws.{LentLaw}
-use Rattle.pc_types.proofs.Needs.{Needs}
-use Rattle.pc_types.proofs.Notes.{meets}
-use Rattle.pc_types.proofs.Values.{top_is, is_number, is_truth, is_address, own_no_trait}
-use Rattle.pc_types.proofs.InverseCalls.{SendRule, TextRule}
-use Rattle.pc_types.proofs.Popped.{popped_is}
-use Rattle.pc_types.proofs.Callers.{counts, actor_of_be}
-use Rattle.pc_types.proofs.InvokeTask.{invokes_is, actor_place, no_method, none_typed, text_typed}
-use Rattle.pc_regions.proofs.Schedules.{KeepsRegions}
-use Rattle.pc_regions.proofs.CallForms.{call_forms}
-use Rattle.pc_regions.proofs.Arguments.{stands_below}
-use Rattle.pc_regions.proofs.FirstFrame.{message_fits}
-use Rattle.pc_regions.proofs.Calm.{calm_same}
-use Rattle.pc_regions.proofs.ArgumentsSettle.{sent_form, from_place, pass_all}
-use Rattle.pc_regions.proofs.CallerKept.{live_left, follows_at, others_on, pushes_on}
-use Rattle.pc_regions.proofs.Rising.{Pushes, rise, others_sent}
-use Rattle.pc_regions.proofs.MessageSent.{mailed, fits_on, others_mailed, pushes_mailed}
-use Rattle.pc_regions.proofs.FunctionCall.{here, Calls, calls, stands, call_ok, lend_ok}
+use Rattle.pc_types.proofs.{Types.{OfKind, OfType, OfSome, Want, StackOk}, Tasks.{want_of, stacked, FinishOk, invokes, TasksOk}, Moves.Runs, Needs.Needs, Notes.meets, Values.{top_is, is_number, is_truth, is_address, own_no_trait}, InverseCalls.{SendRule, TextRule}, Popped.popped_is, Callers.{counts, actor_of_be}, InvokeTask.{invokes_is, actor_place, no_method, none_typed, text_typed}}
+use Rattle.pc_regions.proofs.{World.{InMail, OnStack, World, Fits, FitsSome, Alias, AliasSome}, StackForms.{Entry, FinishRises, TasksRise, piled}, Fitting.StackFits, MoveFits.{Turned, Situated, RegionMoveOk}, Settled.SettleLaw, Climbed.ClimbLaw, ContextLaws.LentLaw, Schedules.KeepsRegions, CallForms.call_forms, Arguments.stands_below, FirstFrame.message_fits, Calm.calm_same, ArgumentsSettle.{sent_form, from_place, pass_all}, CallerKept.{live_left, follows_at, others_on, pushes_on}, Rising.{Pushes, rise, others_sent}, MessageSent.{mailed, fits_on, others_mailed, pushes_mailed}, FunctionCall.{here, Calls, calls, stands, call_ok, lend_ok}}
 
 module _ (settle : SettleLaw) (core : CoreData) (climb : ClimbLaw core) (ann : Ann) (needs : Needs core ann) (around : Around) (f : Frame) (fs : List Frame) (r : Runs core ann around f fs) (n : ℕ)
     (e : FinishOk core ann f.method r.held.live r.held.set r.held.wants invokes n (λ l s g. TasksOk core ann f.method f.tasks l s g)) (w : World) (s : Situated core ann w around f (task.Invoke n ∷ f.tasks) fs)

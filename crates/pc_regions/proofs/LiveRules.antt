@@ -1,36 +1,20 @@
 -- What is live after a node that meets its rule: what is live before it or after one of its children, and the slot that
 -- the node itself sets. What the items of a sequence define is not live after it.
 use Rattle.std.specs.Prelude.{◌≡◌, ◌⊎◌, ℕ, zero, suc, Bool, cond, List, [], ◌∷◌, Option, Some, None, slice_get, refl}
-use Rattle.std.proofs.Common.{inl, inr, ap, sym, subst, ◌∙◌}
-use Rattle.std.proofs.lemmas.Option.{same_Some, none-some}
-use Rattle.pc_caps.specs.Tables.{view}
-use Rattle.pc_caps.specs.declared.capability.Cap.{Cap}
+use Rattle.std.proofs.{Common.{inl, inr, ap, sym, subst, ◌∙◌}, lemmas.Option.{same_Some, none-some}}
+use Rattle.pc_caps.specs.{Tables.view, declared.capability.Cap.Cap}
 use Rattle.pc_caps.specs.declared.capability.Form.TheVariants as form
-use Rattle.pc_core.specs.declared.declarations.Method.{Method}
-use Rattle.pc_core.specs.declared.nodes.Node.{Node}
-use Rattle.pc_core.specs.declared.nodes.NodeKind.{NodeKind}
+use Rattle.pc_core.specs.{declared.declarations.Method.Method, declared.nodes.Node.Node, declared.nodes.NodeKind.NodeKind, CoreData.CoreData}
 use Rattle.pc_core.specs.declared.nodes.NodeKind.TheVariants as node
-use Rattle.pc_core.specs.CoreData.{CoreData}
-use Rattle.pc_lists.specs.Lists.{◌>>=◌}
-use Rattle.pc_lists.proofs.Options.{bind_some, kept, kept_otherwise}
-use Rattle.pc_masks.specs.declared.mask.Mask.{Mask}
-use Rattle.pc_ann.specs.declared.annotation.Note.{Note}
-use Rattle.pc_ann.specs.declared.annotation.Ann.{Ann}
-use Rattle.pc_ann.specs.declared.annotation.Rule.{Rule}
+use Rattle.pc_base.specs.Lists.{◌>>=◌}
+use Rattle.pc_base.proofs.Options.{bind_some, kept, kept_otherwise}
+use Rattle.pc_masks.specs.{declared.mask.Mask.Mask, Masks.{IsInMask, with_number, without_number, meet}, MaskLaws.{meet_bits, with_number_bits, without_number_bits}}
+use Rattle.pc_ann.specs.{declared.annotation.Note.Note, declared.annotation.Ann.Ann, declared.annotation.Rule.Rule}
 use Rattle.pc_ann.specs.declared.annotation.Rule.TheVariants as rule
-use Rattle.pc_masks.specs.Masks.{IsInMask, with_number, without_number, meet}
-use Rattle.pc_masks.specs.MaskLaws.{meet_bits, with_number_bits, without_number_bits}
-use Rattle.pc_rules.specs.declared.said.Said.{Said}
-use Rattle.pc_rules.specs.Parts.{says_of, through, type_of, one_child}
+use Rattle.pc_rules.specs.{declared.said.Said.Said, Parts.{says_of, through, type_of, one_child}, Values.{defines, old_value, assigns}, Fields.{own_field, field_type, old_type}, Control.{without_definition, without_item, without_items, recovered}, Rules.said_by}
 use Rattle.pc_valid.specs.Words.{Ty, Masks, before, masks_after, Defines}
-use Rattle.pc_rules.specs.Values.{defines, old_value, assigns}
-use Rattle.pc_rules.specs.Fields.{own_field, field_type, old_type}
-use Rattle.pc_rules.specs.Control.{without_definition, without_item, without_items, recovered}
-use Rattle.pc_rules.specs.Rules.{said_by}
 use Rattle.pc_rules.proofs.ByNumber.{two_types, slot_of, used, this_says, local_says, consume_says, defined, define_says, assigned, assign_says, incomplete, read_says, own_read_says, write_says, value_type, own_write_says, called, builtin_says, value_says, not_says, identity_says, recover_says, body_says, says, IsSaid, own_seen}
-use Rattle.pc_types.proofs.Tasks.{Within}
-use Rattle.pc_types.proofs.EvalChildren.{first_of_them, items_less}
-use Rattle.pc_types.proofs.Inverse.{LazyRule, IfRule, WhileRule, SeqRule, and_rule, or_rule, if_rule, while_rule, seq_rule}
+use Rattle.pc_types.proofs.{Tasks.Within, EvalChildren.{first_of_them, items_less}, Inverse.{LazyRule, IfRule, WhileRule, SeqRule, and_rule, or_rule, if_rule, while_rule, seq_rule}}
 
 -- ---- after children
 

@@ -1,42 +1,19 @@
 -- What is live at a node is in scope there: its definition comes before it, and the sequence that has the definition is
 -- still to come. So it is no deeper than the node.
 use Rattle.std.specs.Prelude.{◌≡◌, ◌≢◌, ◌⊎◌, ℕ, zero, suc, ◌+◌, ◌-◌, ◌<◌, ◌≤◌, List, [], ◌∷◌, ◌++◌, map, length, Some, slice_get, refl}
-use Rattle.std.proofs.Common.{inl, inr, ap, sym, subst, ◌∙◌, arith}
-use Rattle.std.proofs.lemmas.Option.{same_Some, none-some}
-use Rattle.std.proofs.lemmas.Bool.{cases_lt, and_parts}
-use Rattle.std.proofs.lemmas.List.{length-map}
-use Rattle.pc_lists.proofs.Gets.{get_below, map_get, range_get, append_get}
-use Rattle.pc_core.specs.declared.declarations.Method.{Method}
-use Rattle.pc_core.specs.declared.nodes.Slot.{Slot}
-use Rattle.pc_core.specs.declared.nodes.Node.{Node}
-use Rattle.pc_core.specs.declared.nodes.NodeKind.{NodeKind}
+use Rattle.std.proofs.{Common.{inl, inr, ap, sym, subst, ◌∙◌, arith}, lemmas.Option.{same_Some, none-some}, lemmas.Bool.{cases_lt, and_parts}, lemmas.List.length-map}
+use Rattle.pc_base.proofs.Gets.{get_below, map_get, range_get, append_get}
+use Rattle.pc_core.specs.{declared.declarations.Method.Method, declared.nodes.Slot.Slot, declared.nodes.Node.Node, declared.nodes.NodeKind.NodeKind, CoreData.{CoreData, own_slots}, Methods.{LocalFits, SlotsFit, UsesSlot}, Entities.{this_slot, param_slot}, Nodes.{NamesFit, NamesLocal, NamesSlot, inner_depth}}
 use Rattle.pc_core.specs.declared.nodes.NodeKind.TheVariants as node
-use Rattle.pc_core.specs.CoreData.{CoreData, own_slots}
-use Rattle.pc_lists.specs.Lists.{Each}
-use Rattle.pc_core.specs.Methods.{LocalFits, SlotsFit, UsesSlot}
-use Rattle.pc_core.specs.Entities.{this_slot, param_slot}
-use Rattle.pc_core.specs.Nodes.{NamesFit, NamesLocal, NamesSlot, inner_depth}
-use Rattle.pc_masks.specs.declared.mask.Mask.{Mask}
-use Rattle.pc_ann.specs.declared.annotation.Note.{Note}
-use Rattle.pc_ann.specs.declared.annotation.Ann.{Ann}
-use Rattle.pc_masks.specs.Masks.{IsInMask, first, same}
-use Rattle.pc_masks.specs.MaskLaws.{first_bits}
+use Rattle.pc_base.specs.Lists.{Each}
+use Rattle.pc_masks.specs.{declared.mask.Mask.Mask, Masks.{IsInMask, first, same}, MaskLaws.first_bits}
+use Rattle.pc_ann.specs.{declared.annotation.Note.Note, declared.annotation.Ann.Ann}
 use Rattle.pc_valid.specs.Words.{before, Defines}
-use Rattle.pc_rules.specs.Control.{start_set}
-use Rattle.pc_rules.specs.Rules.{said_by}
-use Rattle.pc_rules.proofs.ByNumber.{says, IsSaid}
-use Rattle.pc_rules.proofs.OneRule.{body_rule}
+use Rattle.pc_rules.specs.{Control.start_set, Rules.said_by, Trees.{Tree, Forest, tree, empty, more, body_tree, tree_le}}
+use Rattle.pc_rules.proofs.{ByNumber.{says, IsSaid}, OneRule.body_rule, Homes.{own_tree, children_of, children_before}}
 use Rattle.pc_core.proofs.Homes.{home}
-use Rattle.pc_rules.proofs.Homes.{own_tree, children_of, children_before}
-use Rattle.pc_rules.specs.Trees.{Tree, Forest, tree, empty, more, body_tree, tree_le}
-use Rattle.pc_regions.proofs.StackForms.{SlotsShallow, LiveShallow}
-use Rattle.pc_types.proofs.Needs.{Needs, IsChild}
-use Rattle.pc_types.proofs.Needed.{not_first}
-use Rattle.pc_types.proofs.Notes.{note_at, meets, same_within}
-use Rattle.pc_types.proofs.Begin.{body_inverse}
-use Rattle.pc_regions.proofs.LiveTrees.{forest_from, inner_tree, tree_deep}
-use Rattle.pc_regions.proofs.LiveRules.{BehindChild, Remains, Sets, live_behind, defined_out}
-use Rattle.pc_regions.proofs.LiveStarts.{Starts, none_before, known_behind, next_starts_known, children_start}
+use Rattle.pc_regions.proofs.{StackForms.{SlotsShallow, LiveShallow}, LiveTrees.{forest_from, inner_tree, tree_deep}, LiveRules.{BehindChild, Remains, Sets, live_behind, defined_out}, LiveStarts.{Starts, none_before, known_behind, next_starts_known, children_start}}
+use Rattle.pc_types.proofs.{Needs.{Needs, IsChild}, Needed.not_first, Notes.{note_at, meets, same_within}, Begin.body_inverse}
 
 -- ---- slots
 

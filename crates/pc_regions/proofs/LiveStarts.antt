@@ -1,25 +1,16 @@
 -- What a child of a node starts from: what is live before it is live before the node or after an earlier child.
 use Rattle.std.specs.Prelude.{◌≡◌, ◌⊎◌, ℕ, zero, suc, ◌<◌, false, List, [], ◌∷◌, Some, slice_get, refl}
-use Rattle.std.proofs.Common.{inl, inr, ap, sym, subst, ◌∙◌, arith}
-use Rattle.std.proofs.lemmas.Option.{same_Some, none-some}
-use Rattle.pc_lists.proofs.Gets.{get_below, get_within}
-use Rattle.pc_core.specs.declared.nodes.Node.{Node}
-use Rattle.pc_core.specs.declared.nodes.NodeKind.{NodeKind}
+use Rattle.std.proofs.{Common.{inl, inr, ap, sym, subst, ◌∙◌, arith}, lemmas.Option.{same_Some, none-some}}
+use Rattle.pc_base.proofs.Gets.{get_below, get_within}
+use Rattle.pc_core.specs.{declared.nodes.Node.Node, declared.nodes.NodeKind.NodeKind, CoreData.CoreData}
 use Rattle.pc_core.specs.declared.nodes.NodeKind.TheVariants as node
-use Rattle.pc_core.specs.CoreData.{CoreData}
-use Rattle.pc_lists.specs.Lists.{Each}
-use Rattle.pc_ann.specs.declared.annotation.Note.{Note}
-use Rattle.pc_ann.specs.declared.annotation.Ann.{Ann}
+use Rattle.pc_base.specs.Lists.{Each}
+use Rattle.pc_ann.specs.{declared.annotation.Note.Note, declared.annotation.Ann.Ann}
 use Rattle.pc_masks.specs.Masks.{IsInMask}
-use Rattle.pc_rules.specs.Parts.{through}
+use Rattle.pc_rules.specs.{Parts.through, Rules.said_by}
 use Rattle.pc_valid.specs.Words.{Masks, before, masks_after}
-use Rattle.pc_rules.specs.Rules.{said_by}
-use Rattle.pc_rules.proofs.ByNumber.{says, IsSaid}
-use Rattle.pc_rules.proofs.Threads.{Threaded, is_branch, threads, first_starts, next_starts}
-use Rattle.pc_types.proofs.Needs.{Needs}
-use Rattle.pc_types.proofs.Notes.{note_at}
-use Rattle.pc_types.proofs.EvalChildren.{first_of_them}
-use Rattle.pc_types.proofs.Inverse.{IfRule, if_rule}
+use Rattle.pc_rules.proofs.{ByNumber.{says, IsSaid}, Threads.{Threaded, is_branch, threads, first_starts, next_starts}}
+use Rattle.pc_types.proofs.{Needs.Needs, Notes.note_at, EvalChildren.first_of_them, Inverse.{IfRule, if_rule}}
 use Rattle.pc_regions.proofs.LiveRules.{BehindChild}
 
 -- What is live before a child is known, or live after an earlier child.

@@ -1,55 +1,20 @@
 -- The task Make, by regions: the arguments settle in the slots of the constructor's frame, and then the object is put
 -- into the region in which that frame begins. If the object comes out alone, that is a new context.
-use Rattle.std.specs.Prelude.{◌≡◌, ℕ, suc, ◌+◌, ◌≤◌, Bool, true, false, ◌||◌, List, ◌∷◌, length, None, refl}
-use Rattle.std.specs.FinMap.{get}
+use Rattle.std.specs.{Prelude.{◌≡◌, ℕ, suc, ◌+◌, ◌≤◌, Bool, true, false, ◌||◌, List, ◌∷◌, length, None, refl}, FinMap.get}
 use Rattle.std.proofs.Common.{inl, inr, ap, sym, subst, ◌∙◌, arith}
-use Rattle.pc_heap.specs.Objects.{next_address}
-use Rattle.pc_heap.specs.declared.value.Address.{Address}
-use Rattle.pc_heap.specs.declared.value.Value.{Value}
-use Rattle.pc_heap.specs.declared.value.Value.TheVariants.{At}
-use Rattle.pc_caps.specs.Tables.{unalias, sendable}
-use Rattle.pc_caps.specs.declared.capability.Cap.{Cap}
-use Rattle.pc_core.specs.declared.declarations.Method.{Method}
-use Rattle.pc_core.specs.declared.declarations.MethodKind.{MethodKind}
+use Rattle.pc_heap.specs.{Objects.next_address, declared.value.Address.Address, declared.value.Value.Value, declared.value.Value.TheVariants.At}
+use Rattle.pc_caps.specs.{Tables.{unalias, sendable}, declared.capability.Cap.Cap}
+use Rattle.pc_core.specs.{declared.declarations.Method.Method, declared.declarations.MethodKind.MethodKind, CoreData.CoreData}
 use Rattle.pc_core.specs.declared.declarations.MethodKind.TheVariants as method
 use Rattle.pc_core.specs.declared.nodes.NodeKind.TheVariants as nodes
-use Rattle.pc_core.specs.CoreData.{CoreData}
-use Rattle.pc_lists.specs.Lists.{Each}
+use Rattle.pc_base.specs.Lists.{Each}
 use Rattle.pc_masks.specs.declared.mask.Mask.{Mask}
 use Rattle.pc_ann.specs.declared.annotation.Ann.{Ann}
-use Rattle.pc_semantics.specs.declared.frames.Frame.{Frame}
+use Rattle.pc_semantics.specs.{declared.frames.Frame.Frame, Configurations.{blank_object, Around}, Calls.make_task}
 use Rattle.pc_semantics.specs.declared.frames.Task.TheVariants as task
-use Rattle.pc_semantics.specs.Configurations.{blank_object, Around}
-use Rattle.pc_semantics.specs.Calls.{make_task}
 use Rattle.pc_sub.specs.Declarations.{isolates, takes_sendable}
-use Rattle.pc_types.proofs.Tasks.{FinishOk, makes, TasksOk}
-use Rattle.pc_types.proofs.Moves.{Runs}
-use Rattle.pc_regions.proofs.World.{Unused, Opened, Place, InSlot, OnStack, World, Fits, WorldOk}
-use Rattle.pc_regions.proofs.StackForms.{Entry, Shallow, FinishRises, TasksRise}
-use Rattle.pc_regions.proofs.Fitting.{Entered, OpenedTo, GoesTo, FieldsFit}
-use Rattle.pc_regions.proofs.MoveFits.{Others, Situated, RegionMoveOk}
-use Rattle.pc_regions.proofs.Changes.{with_open, Shifts}
-use Rattle.pc_regions.proofs.Settled.{SettleLaw}
-use Rattle.pc_regions.proofs.ContextLaws.{higher, OpenLaw}
-use Rattle.pc_types.proofs.Needs.{Needs}
-use Rattle.pc_types.proofs.Made.{next_free}
-use Rattle.pc_types.proofs.Popped.{popped_is}
-use Rattle.pc_types.proofs.MakeTask.{makes_is, Making, making, make_move}
-use Rattle.pc_regions.proofs.Schedules.{KeepsRegions}
-use Rattle.pc_regions.proofs.Shifts.{shifts_both, lower_shift}
-use Rattle.pc_regions.proofs.ControlKeeps.{below_same}
-use Rattle.pc_regions.proofs.FirstFrame.{ArgumentsAt}
-use Rattle.pc_regions.proofs.SameRegions.{context_here, number_here}
-use Rattle.pc_regions.proofs.StandsOtherwise.{stand_here}
-use Rattle.pc_regions.proofs.ArgumentsSettle.{from_place, pass_all}
-use Rattle.pc_regions.proofs.CallerKept.{children_on, Rests, live_left, follows_at, fields_on, others_on, rests_on, fields_low, others_low, rests_low}
-use Rattle.pc_regions.proofs.CallBegins.{finish_at, enters_frames}
-use Rattle.pc_regions.proofs.FunctionCall.{piled_shallow, not_higher, stand_kept, left_lent}
-use Rattle.pc_regions.proofs.Rising.{others_both}
-use Rattle.pc_regions.proofs.NewAddress.{region_here}
-use Rattle.pc_regions.proofs.GrownFits.{others_grown, fields_grown, rests_grown, arguments_grown}
-use Rattle.pc_regions.proofs.NewObject.{placed, place_grows, place_world}
-use Rattle.pc_regions.proofs.Arguments.{ChildrenStand, same_params}
+use Rattle.pc_types.proofs.{Tasks.{FinishOk, makes, TasksOk}, Moves.Runs, Needs.Needs, Made.next_free, Popped.popped_is, MakeTask.{makes_is, Making, making, make_move}}
+use Rattle.pc_regions.proofs.{World.{Unused, Opened, Place, InSlot, OnStack, World, Fits, WorldOk}, StackForms.{Entry, Shallow, FinishRises, TasksRise}, Fitting.{Entered, OpenedTo, GoesTo, FieldsFit}, MoveFits.{Others, Situated, RegionMoveOk}, Changes.{with_open, Shifts}, Settled.SettleLaw, ContextLaws.{higher, OpenLaw}, Schedules.KeepsRegions, Shifts.{shifts_both, lower_shift}, ControlKeeps.below_same, FirstFrame.ArgumentsAt, SameRegions.{context_here, number_here}, StandsOtherwise.stand_here, ArgumentsSettle.{from_place, pass_all}, CallerKept.{children_on, Rests, live_left, follows_at, fields_on, others_on, rests_on, fields_low, others_low, rests_low}, CallBegins.{finish_at, enters_frames}, FunctionCall.{piled_shallow, not_higher, stand_kept, left_lent}, Rising.others_both, NewAddress.region_here, GrownFits.{others_grown, fields_grown, rests_grown, arguments_grown}, NewObject.{placed, place_grows, place_world}, Arguments.{ChildrenStand, same_params}}
 
 module _ (settle : SettleLaw) (core : CoreData) (ann : Ann) (needs : Needs core ann) (around : Around) (f : Frame) (fs : List Frame) (r : Runs core ann around f fs) (n : ℕ)
     (e : FinishOk core ann f.method r.held.live r.held.set r.held.wants makes n (λ l s g. TasksOk core ann f.method f.tasks l s g)) (w : World) (s : Situated core ann w around f (task.Make n ∷ f.tasks) fs)

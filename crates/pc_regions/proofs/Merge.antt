@@ -1,20 +1,12 @@
 -- A region becomes a part of another: what is in it is then in the other, and what was seen from it is seen from the
 -- other.
-use Rattle.std.specs.Prelude.{◌≡◌, ◌⊎◌, ℕ, ◌<◌, ◌≤◌, Bool, true, false, cond, Option, Some, None, refl}
-use Rattle.std.specs.FinMap.{get}
-use Rattle.std.proofs.Common.{inl, inr, ap, sym, subst, ◌∙◌, arith}
-use Rattle.std.proofs.lemmas.Bool.{eq-eqb, ne_eqb, cases_eq}
-use Rattle.std.proofs.lemmas.Option.{none-some}
-use Rattle.pc_heap.specs.Objects.{ObjectMap, Object}
-use Rattle.pc_heap.specs.declared.value.Address.{Address}
-use Rattle.pc_heap.specs.declared.value.Value.{Value}
-use Rattle.pc_heap.specs.declared.value.Value.TheVariants.{Num, Truth, Text, Prim, At}
+use Rattle.std.specs.{Prelude.{◌≡◌, ◌⊎◌, ℕ, ◌<◌, ◌≤◌, Bool, true, false, cond, Option, Some, None, refl}, FinMap.get}
+use Rattle.std.proofs.{Common.{inl, inr, ap, sym, subst, ◌∙◌, arith}, lemmas.Bool.{eq-eqb, ne_eqb, cases_eq}, lemmas.Option.none-some}
+use Rattle.pc_heap.specs.{Objects.{ObjectMap, Object}, declared.value.Address.Address, declared.value.Value.Value, declared.value.Value.TheVariants.{Num, Truth, Text, Prim, At}}
 use Rattle.pc_caps.specs.declared.capability.Form.{Form}
 use Rattle.pc_caps.specs.declared.capability.Form.TheVariants as form
-use Rattle.pc_lists.proofs.Bools.{false_true}
-use Rattle.pc_regions.proofs.World.{Place, InSlot, OnStack, InField, InMail, Standing, Unused, Froze, Opened, Loose, Held, Child, World, home, Frozen, ice, in_ice, under_ice, Belongs, Seen, same, under, frozen, steady, Over, over_loose, over_slot, over_own, over_field, over_part, over_child, FitsIn, Fits, AliasIn, Alias, WorldOk}
-use Rattle.pc_regions.proofs.Changes.{renamed, child_renamed, merged, Shifts}
-use Rattle.pc_regions.proofs.StandsOtherwise.{stand_here, stand_other, belongs_used}
+use Rattle.pc_base.proofs.Bools.{false_true}
+use Rattle.pc_regions.proofs.{World.{Place, InSlot, OnStack, InField, InMail, Standing, Unused, Froze, Opened, Loose, Held, Child, World, home, Frozen, ice, in_ice, under_ice, Belongs, Seen, same, under, frozen, steady, Over, over_loose, over_slot, over_own, over_field, over_part, over_child, FitsIn, Fits, AliasIn, Alias, WorldOk}, Changes.{renamed, child_renamed, merged, Shifts}, StandsOtherwise.{stand_here, stand_other, belongs_used}}
 
 pub renamed_here : (q r x : ℕ) → q ≡ x → renamed q r x ≡ r
 renamed_here q r x e = ap (λ (b : Bool). cond b r x) (eq-eqb q x e)

@@ -1,22 +1,13 @@
 -- A message is sent: there is one more for its actor, and everything else is unchanged.
 use Rattle.std.specs.Prelude.{◌≡◌, ℕ, suc, ◌+◌, Bool, true, false, cond, List, length, Option, Some, nat_eq, refl}
-use Rattle.std.proofs.Common.{inl, inr, ap, arith}
-use Rattle.std.proofs.lemmas.Bool.{eqb-true}
-use Rattle.pc_heap.specs.Objects.{ObjectMap}
-use Rattle.pc_heap.specs.declared.value.Value.{Value}
-use Rattle.pc_caps.specs.Tables.{unalias}
-use Rattle.pc_caps.specs.declared.capability.Form.{Form}
+use Rattle.std.proofs.{Common.{inl, inr, ap, arith}, lemmas.Bool.eqb-true}
+use Rattle.pc_heap.specs.{Objects.ObjectMap, declared.value.Value.Value}
+use Rattle.pc_caps.specs.{Tables.unalias, declared.capability.Form.Form}
 use Rattle.pc_core.specs.CoreData.{CoreData}
 use Rattle.pc_masks.specs.declared.mask.Mask.{Mask}
 use Rattle.pc_ann.specs.declared.annotation.Ann.{Ann}
 use Rattle.pc_semantics.specs.declared.frames.Frame.{Frame}
-use Rattle.pc_regions.proofs.World.{Place, InSlot, OnStack, InField, InMail, World, home, Over, Fits, Alias, WorldOk}
-use Rattle.pc_regions.proofs.StackForms.{Entry}
-use Rattle.pc_regions.proofs.Changes.{with_number}
-use Rattle.pc_regions.proofs.MoveFits.{Others}
-use Rattle.pc_regions.proofs.SameRegions.{over_same, fits_same, alias_same}
-use Rattle.pc_regions.proofs.Waiting.{stack_fits, wait_kept}
-use Rattle.pc_regions.proofs.Rising.{Pushes}
+use Rattle.pc_regions.proofs.{World.{Place, InSlot, OnStack, InField, InMail, World, home, Over, Fits, Alias, WorldOk}, StackForms.Entry, Changes.with_number, MoveFits.Others, SameRegions.{over_same, fits_same, alias_same}, Waiting.{stack_fits, wait_kept}, Rising.Pushes}
 
 abbrev pub mailed : World → ℕ → World
 mailed w j = record { region = w.region; stands = w.stands; role = w.role; context = w.context; top = w.top; sent = with_number w.sent j (suc (w.sent j)); next = w.next }

@@ -1,19 +1,12 @@
 -- What a move of a running actor has to preserve, so that the configuration has regions when the move is made: some
 -- world fits what the move makes, and preserves what it requires of the other actors and of waiting messages.
-use Rattle.std.specs.Prelude.{◌≡◌, ◌≢◌, ℕ, ◌+◌, ◌<◌, Bool, true, false, not, List, ◌∷◌, length, Option, Some, None, nat_eq, nat_lt, if◌then◌else◌}
-use Rattle.std.specs.FinMap.{insert}
-use Rattle.pc_heap.specs.Objects.{ObjectMap, with_value}
-use Rattle.pc_heap.specs.declared.value.Value.{Value}
+use Rattle.std.specs.{Prelude.{◌≡◌, ◌≢◌, ℕ, ◌+◌, ◌<◌, Bool, true, false, not, List, ◌∷◌, length, Option, Some, None, nat_eq, nat_lt, if◌then◌else◌}, FinMap.insert}
+use Rattle.pc_heap.specs.{Objects.{ObjectMap, with_value}, declared.value.Value.Value}
 use Rattle.pc_caps.specs.declared.capability.Form.{Form}
 use Rattle.pc_core.specs.CoreData.{CoreData}
 use Rattle.pc_ann.specs.declared.annotation.Ann.{Ann}
-use Rattle.pc_semantics.specs.declared.frames.Frame.{Frame}
-use Rattle.pc_semantics.specs.declared.frames.Task.{Task}
-use Rattle.pc_semantics.specs.Configurations.{own_address, Around, Move, Stuck, Overflows, Goes, Writes, Makes, Spawns, Enters, Sends, Leaves}
-use Rattle.pc_semantics.specs.Step.{left}
-use Rattle.pc_regions.proofs.World.{World, Opened, Place, InSlot, OnStack, InField, InMail, Fits, Alias, Over, WorldOk}
-use Rattle.pc_regions.proofs.StackForms.{TasksRise, uses_top}
-use Rattle.pc_regions.proofs.Fitting.{Active, WaitFits, FramesFit, TopAlias, FieldsFit, MessageFits}
+use Rattle.pc_semantics.specs.{declared.frames.Frame.Frame, declared.frames.Task.Task, Configurations.{own_address, Around, Move, Stuck, Overflows, Goes, Writes, Makes, Spawns, Enters, Sends, Leaves}, Step.left}
+use Rattle.pc_regions.proofs.{World.{World, Opened, Place, InSlot, OnStack, InField, InMail, Fits, Alias, Over, WorldOk}, StackForms.{TasksRise, uses_top}, Fitting.{Active, WaitFits, FramesFit, TopAlias, FieldsFit, MessageFits}}
 
 -- A place of another actor's frames, or of a waiting message.
 abbrev pub elsewhere : ℕ → Place → Bool

@@ -1,25 +1,13 @@
 -- A move that preserves what it has to leaves a configuration that has regions.
-use Rattle.std.specs.Prelude.{◌≡◌, ◌≢◌, ◌⊎◌, ℕ, suc, ◌+◌, ◌<◌, Bool, List, [], ◌∷◌, ◌++◌, length, Option, Some, None, slice_get, slice_set, refl}
-use Rattle.std.proofs.Common.{inl, inr, ap, sym, subst, ◌∙◌, arith, length-set, length-append, cond}
-use Rattle.std.proofs.lemmas.Bool.{ne_eqb, eq-eqb, cases_eq}
-use Rattle.std.proofs.lemmas.Option.{none-some, same_Some}
-use Rattle.pc_heap.specs.Objects.{ObjectMap, with_value, Object}
-use Rattle.std.specs.FinMap.{insert}
-use Rattle.pc_lists.proofs.Gets.{get_within, get_below, get_push, get_set, get_set_same, get_set_other}
+use Rattle.std.specs.{Prelude.{◌≡◌, ◌≢◌, ◌⊎◌, ℕ, suc, ◌+◌, ◌<◌, Bool, List, [], ◌∷◌, ◌++◌, length, Option, Some, None, slice_get, slice_set, refl}, FinMap.insert}
+use Rattle.std.proofs.{Common.{inl, inr, ap, sym, subst, ◌∙◌, arith, length-set, length-append, cond}, lemmas.Bool.{ne_eqb, eq-eqb, cases_eq}, lemmas.Option.{none-some, same_Some}}
+use Rattle.pc_heap.specs.{Objects.{ObjectMap, with_value, Object}, declared.value.Value.TheVariants.At}
+use Rattle.pc_base.proofs.Gets.{get_within, get_below, get_push, get_set, get_set_same, get_set_other}
 use Rattle.pc_core.specs.CoreData.{CoreData}
 use Rattle.pc_ann.specs.declared.annotation.Ann.{Ann}
-use Rattle.pc_semantics.specs.declared.actors.Actor.{Actor}
-use Rattle.pc_semantics.specs.declared.frames.Frame.{Frame}
-use Rattle.pc_semantics.specs.declared.mailbox.Message.{Message}
-use Rattle.pc_semantics.specs.Configurations.{Configuration, with_actor, with_frames, own_address, Move, Stuck, Overflows, Goes, Writes, Makes, Spawns, Enters, Sends, Leaves}
-use Rattle.pc_semantics.specs.Parts.{with_objects, delivered}
-use Rattle.pc_semantics.specs.Step.{around, left, made}
-use Rattle.pc_heap.specs.declared.value.Value.TheVariants.{At}
+use Rattle.pc_semantics.specs.{declared.actors.Actor.Actor, declared.frames.Frame.Frame, declared.mailbox.Message.Message, Configurations.{Configuration, with_actor, with_frames, own_address, Move, Stuck, Overflows, Goes, Writes, Makes, Spawns, Enters, Sends, Leaves}, Parts.{with_objects, delivered}, Step.{around, left, made}}
 use Rattle.pc_caps.specs.declared.capability.Form.TheVariants as form
-use Rattle.pc_regions.proofs.World.{InMail, World, WorldOk}
-use Rattle.pc_regions.proofs.Fitting.{FramesFit, MessageFits, MailFits, ActorFits, InRegions, StaysFrozen, LeadsOn}
-use Rattle.pc_regions.proofs.MoveFits.{one_more, Others, Turned, RegionMoveOk}
-use Rattle.pc_regions.proofs.OthersKept.{frames_kept, mail_kept, mail_more}
+use Rattle.pc_regions.proofs.{World.{InMail, World, WorldOk}, Fitting.{FramesFit, MessageFits, MailFits, ActorFits, InRegions, StaysFrozen, LeadsOn}, MoveFits.{one_more, Others, Turned, RegionMoveOk}, OthersKept.{frames_kept, mail_kept, mail_more}}
 
 -- What is at a place after a write: what was written, there, or what was at another place.
 pub set_cases : {T : Type 0} → (xs : List T) (i : ℕ) (y : T) (j : ℕ) (x : T) → slice_get (slice_set xs i y) j ≡ Some x → ((j ≡ i) × (x ≡ y)) ⊎ ((j ≢ i) × (slice_get xs j ≡ Some x))

@@ -1,19 +1,10 @@
 -- A new actor: its object is in a new region, which is open and its first context, and one message was sent to it.
-use Rattle.std.specs.Prelude.{◌≡◌, ◌⊎◌, ℕ, suc, ◌+◌, ◌<◌, ◌≤◌, Bool, cond, Option, Some, None, nat_eq}
-use Rattle.std.specs.FinMap.{get, insert}
-use Rattle.std.proofs.Common.{inl, inr, ap, sym, subst, ◌∙◌, arith}
-use Rattle.std.proofs.lemmas.Bool.{eq-eqb, ne_eqb, cases_eq}
-use Rattle.std.proofs.lemmas.Option.{same_Some, none-some}
-use Rattle.pc_heap.specs.Objects.{ObjectMap, Object}
-use Rattle.pc_heap.specs.declared.value.Address.{Address}
+use Rattle.std.specs.{Prelude.{◌≡◌, ◌⊎◌, ℕ, suc, ◌+◌, ◌<◌, ◌≤◌, Bool, cond, Option, Some, None, nat_eq}, FinMap.{get, insert}}
+use Rattle.std.proofs.{Common.{inl, inr, ap, sym, subst, ◌∙◌, arith}, lemmas.Bool.{eq-eqb, ne_eqb, cases_eq}, lemmas.Option.{same_Some, none-some}}
+use Rattle.pc_heap.specs.{Objects.{ObjectMap, Object}, declared.value.Address.Address}
 use Rattle.pc_semantics.specs.Configurations.{own_address}
-use Rattle.pc_regions.proofs.World.{InField, Standing, Unused, Opened, Held, Child, World, Over, WorldOk}
-use Rattle.pc_regions.proofs.Changes.{stand, with_number, with_role}
+use Rattle.pc_regions.proofs.{World.{InField, Standing, Unused, Opened, Held, Child, World, Over, WorldOk}, Changes.{stand, with_number, with_role}, StandsOtherwise.{stand_here, stand_other}, SameRegions.{number_here, number_other, role_here, role_other}, NewAddress.{with_region, region_here, region_other, still_absent, present_or, region_low}, WorldGrows.{opened_used, Grows, grows}}
 use Rattle.pc_types.proofs.Heaps.{address_cases, put_stays}
-use Rattle.pc_regions.proofs.StandsOtherwise.{stand_here, stand_other}
-use Rattle.pc_regions.proofs.SameRegions.{number_here, number_other, role_here, role_other}
-use Rattle.pc_regions.proofs.NewAddress.{with_region, region_here, region_other, still_absent, present_or, region_low}
-use Rattle.pc_regions.proofs.WorldGrows.{opened_used, Grows, grows}
 
 -- Actor n is there.
 abbrev pub born : World → ℕ → World

@@ -1,12 +1,8 @@
 -- One address without an object gets an object and a region: those of all other objects are unchanged.
-use Rattle.std.specs.Prelude.{◌≡◌, ◌⊎◌, ℕ, ◌<◌, Bool, cond, Some, None}
-use Rattle.std.specs.FinMap.{get, insert}
-use Rattle.std.specs.Ordering.{eq_by_cmp}
-use Rattle.std.proofs.Common.{inl, inr, ap, sym, subst, ◌∙◌}
-use Rattle.std.proofs.lemmas.Option.{none-some}
+use Rattle.std.specs.{Prelude.{◌≡◌, ◌⊎◌, ℕ, ◌<◌, Bool, cond, Some, None}, FinMap.{get, insert}, Ordering.eq_by_cmp}
+use Rattle.std.proofs.{Common.{inl, inr, ap, sym, subst, ◌∙◌}, lemmas.Option.none-some}
 use Rattle.pc_heap.proofs.Maps.{addresses_total, tied_own}
-use Rattle.pc_heap.specs.Objects.{address_cmp, ObjectMap, Object}
-use Rattle.pc_heap.specs.declared.value.Address.{Address}
+use Rattle.pc_heap.specs.{Objects.{address_cmp, ObjectMap, Object}, declared.value.Address.Address}
 use Rattle.pc_types.proofs.Heaps.{address_cases, get_after}
 
 abbrev pub with_region : (Address → ℕ) → Address → ℕ → Address → ℕ

@@ -1,14 +1,10 @@
 -- A new object is put into a region that is in use: everything else is unchanged.
-use Rattle.std.specs.Prelude.{◌≡◌, ℕ, ◌<◌, Bool, cond, None, refl}
-use Rattle.std.specs.FinMap.{get, insert}
+use Rattle.std.specs.{Prelude.{◌≡◌, ℕ, ◌<◌, Bool, cond, None, refl}, FinMap.{get, insert}}
 use Rattle.std.proofs.Common.{inl, inr, ap, sym, ◌∙◌}
-use Rattle.pc_heap.specs.Objects.{ObjectMap, Object}
-use Rattle.pc_heap.specs.declared.value.Address.{Address}
+use Rattle.pc_heap.specs.{Objects.{ObjectMap, Object}, declared.value.Address.Address}
 use Rattle.pc_semantics.specs.Configurations.{own_address}
-use Rattle.pc_regions.proofs.World.{Unused, World, WorldOk}
+use Rattle.pc_regions.proofs.{World.{Unused, World, WorldOk}, NewAddress.{with_region, region_other, still_absent, present_or, region_low}, WorldGrows.{opened_used, used_below, Grows, grows}}
 use Rattle.pc_types.proofs.Heaps.{address_cases, put_stays}
-use Rattle.pc_regions.proofs.NewAddress.{with_region, region_other, still_absent, present_or, region_low}
-use Rattle.pc_regions.proofs.WorldGrows.{opened_used, used_below, Grows, grows}
 
 -- The region of address a is r.
 abbrev pub placed : World → Address → ℕ → World

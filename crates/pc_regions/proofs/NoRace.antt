@@ -1,44 +1,20 @@
 -- A configuration that is well typed and has regions is safe, except for what steps lack.
 use Rattle.std.specs.Prelude.{◌≡◌, ◌⊎◌, ℕ, Bool, true, false, List, [], ◌∷◌, length, Some, slice_get, refl, suc, zero}
-use Rattle.std.proofs.Common.{inl, inr, ap, sym, subst, ◌∙◌}
-use Rattle.std.proofs.lemmas.Option.{same_Some, none-some}
-use Rattle.pc_heap.specs.Objects.{ObjectMap, class_at}
+use Rattle.std.proofs.{Common.{inl, inr, ap, sym, subst, ◌∙◌}, lemmas.Option.{same_Some, none-some}}
+use Rattle.pc_heap.specs.{Objects.{ObjectMap, class_at}, declared.value.Value.Value, declared.value.Value.TheVariants.At}
 use Rattle.pc_caps.specs.declared.capability.Form.{Form}
 use Rattle.pc_caps.specs.declared.capability.Form.TheVariants as form
-use Rattle.pc_core.specs.declared.nodes.Node.{Node}
+use Rattle.pc_core.specs.{declared.nodes.Node.Node, declared.declarations.MethodKind.MethodKind, declared.declarations.ParamInfo.ParamInfo, CoreData.{field_named, CoreData}}
 use Rattle.pc_rules.specs.Parts.{type_of}
 use Rattle.pc_valid.specs.Words.{Ty}
-use Rattle.pc_core.specs.declared.declarations.MethodKind.{MethodKind}
 use Rattle.pc_core.specs.declared.declarations.MethodKind.TheVariants as method
-use Rattle.pc_core.specs.declared.declarations.ParamInfo.{ParamInfo}
 use Rattle.pc_sub.specs.Declarations.{takes_sendable}
-use Rattle.pc_semantics.specs.declared.mailbox.Message.{Message}
-use Rattle.pc_types.proofs.Types.{ArgumentsOk}
-use Rattle.pc_heap.specs.declared.value.Value.{Value}
-use Rattle.pc_heap.specs.declared.value.Value.TheVariants.{At}
-use Rattle.pc_lists.proofs.Gets.{get_below}
-use Rattle.pc_core.specs.CoreData.{field_named, CoreData}
-use Rattle.pc_lists.proofs.Options.{bind_some}
+use Rattle.pc_semantics.specs.{declared.mailbox.Message.Message, declared.access.Access.Access, declared.actors.Actor.Actor, declared.frames.Frame.Frame, declared.frames.Task.Task, Configurations.{Configuration, address_of}, Safety.{name_read, touched_name, access_of, access, Race, Quiet}, Step.around}
+use Rattle.pc_types.proofs.{Types.ArgumentsOk, Tasks.TasksOk, Frames.FramesOk, Typed.{MessageOk, MailOk, FirstMailOk, WellTyped, ActorOk}, Needs.Needs, Steps.some_frames}
+use Rattle.pc_base.proofs.{Gets.get_below, Options.bind_some}
 use Rattle.pc_ann.specs.declared.annotation.Ann.{Ann}
-use Rattle.pc_semantics.specs.declared.access.Access.{Access}
-use Rattle.pc_semantics.specs.declared.actors.Actor.{Actor}
-use Rattle.pc_semantics.specs.declared.frames.Frame.{Frame}
-use Rattle.pc_semantics.specs.declared.frames.Task.{Task}
 use Rattle.pc_semantics.specs.declared.frames.Task.TheVariants as task
-use Rattle.pc_semantics.specs.Configurations.{Configuration, address_of}
-use Rattle.pc_semantics.specs.Safety.{name_read, touched_name, access_of, access, Race, Quiet}
-use Rattle.pc_semantics.specs.Step.{around}
-use Rattle.pc_types.proofs.Tasks.{TasksOk}
-use Rattle.pc_types.proofs.Frames.{FramesOk}
-use Rattle.pc_types.proofs.Typed.{MessageOk, MailOk, FirstMailOk, WellTyped, ActorOk}
-use Rattle.pc_regions.proofs.World.{OnStack, World, Frozen, FitsIn}
-use Rattle.pc_regions.proofs.StackForms.{piled, TasksRise, uses_top}
-use Rattle.pc_regions.proofs.Fitting.{TopAlias, FramesFit, MessageFits, MailFits, InRegions}
-use Rattle.pc_regions.proofs.MoveFits.{Situated}
-use Rattle.pc_types.proofs.Needs.{Needs}
-use Rattle.pc_regions.proofs.OneHolder.{AccessOk, AccessesOk, address_is, no_race, let_alone}
-use Rattle.pc_regions.proofs.Accesses.{top_fits, get_access, put_access}
-use Rattle.pc_types.proofs.Steps.{some_frames}
+use Rattle.pc_regions.proofs.{World.{OnStack, World, Frozen, FitsIn}, StackForms.{piled, TasksRise, uses_top}, Fitting.{TopAlias, FramesFit, MessageFits, MailFits, InRegions}, MoveFits.Situated, OneHolder.{AccessOk, AccessesOk, address_is, no_race, let_alone}, Accesses.{top_fits, get_access, put_access}}
 
 -- A list with a first value.
 first_is : {T : Type 0} → (xs : List T) (x : T) → slice_get xs 0 ≡ Some x → (ys : List T) × (xs ≡ x ∷ ys)

@@ -1,20 +1,12 @@
 -- If a configuration has regions, no two actors race, and waiting messages are let alone.
 use Rattle.std.specs.Prelude.{◌≡◌, ◌≢◌, ◌⊎◌, ℕ, zero, suc, ◌<◌, ◌≤◌, true, false, Some}
-use Rattle.std.proofs.Common.{inl, inr, ap, sym, subst, ◌∙◌, arith}
-use Rattle.std.proofs.lemmas.Option.{same_Some, none-some}
-use Rattle.pc_heap.specs.Objects.{ObjectMap}
-use Rattle.pc_heap.specs.declared.value.Address.{Address}
-use Rattle.pc_heap.specs.declared.value.Value.{Value}
-use Rattle.pc_heap.specs.declared.value.Value.TheVariants.{Num, Truth, Text, Prim, At}
-use Rattle.pc_caps.specs.Tables.{unalias}
-use Rattle.pc_caps.specs.declared.capability.Cap.{Cap}
+use Rattle.std.proofs.{Common.{inl, inr, ap, sym, subst, ◌∙◌, arith}, lemmas.Option.{same_Some, none-some}}
+use Rattle.pc_heap.specs.{Objects.ObjectMap, declared.value.Address.Address, declared.value.Value.Value, declared.value.Value.TheVariants.{Num, Truth, Text, Prim, At}}
+use Rattle.pc_caps.specs.{Tables.unalias, declared.capability.Cap.Cap}
 use Rattle.pc_caps.specs.declared.capability.Form.TheVariants as form
-use Rattle.pc_core.specs.declared.declarations.ParamInfo.{ParamInfo}
-use Rattle.pc_core.specs.CoreData.{CoreData}
-use Rattle.pc_semantics.specs.declared.access.Access.{Access}
-use Rattle.pc_semantics.specs.Configurations.{Configuration, address_of}
-use Rattle.pc_semantics.specs.Safety.{access, Race, LetAlone}
-use Rattle.pc_lists.proofs.Bools.{false_true}
+use Rattle.pc_core.specs.{declared.declarations.ParamInfo.ParamInfo, CoreData.CoreData}
+use Rattle.pc_semantics.specs.{declared.access.Access.Access, Configurations.{Configuration, address_of}, Safety.{access, Race, LetAlone}}
+use Rattle.pc_base.proofs.Bools.{false_true}
 use Rattle.pc_regions.proofs.World.{Fits, InMail, Held, World, Frozen, ice, in_ice, under_ice, Belongs, opened, loose, slot, stack, field, child, Seen, same, under, frozen, Over, over_loose, over_slot, over_own, over_field, over_part, over_child, WorldOk}
 
 -- ---- chains end in one way

@@ -1,9 +1,7 @@
 -- The region of an object that is read or written is not one that a field of that object holds.
 use Rattle.std.specs.Prelude.{◌≡◌, ◌⊎◌, ℕ, ◌+◌, ◌<◌, Option, Some, None, refl}
-use Rattle.std.proofs.Common.{inl, inr, ap, sym, subst, ◌∙◌, arith}
-use Rattle.std.proofs.lemmas.Option.{same_Some, none-some}
-use Rattle.pc_heap.specs.Objects.{ObjectMap}
-use Rattle.pc_heap.specs.declared.value.Address.{Address}
+use Rattle.std.proofs.{Common.{inl, inr, ap, sym, subst, ◌∙◌, arith}, lemmas.Option.{same_Some, none-some}}
+use Rattle.pc_heap.specs.{Objects.ObjectMap, declared.value.Address.Address}
 use Rattle.pc_caps.specs.declared.capability.Form.{Form}
 use Rattle.pc_caps.specs.declared.capability.Form.TheVariants as form
 use Rattle.pc_regions.proofs.World.{Place, OnStack, InField, Opened, Held, Child, World, Over, over_loose, over_slot, over_own, over_field, over_part, over_child, FitsIn, AliasIn, WorldOk}

@@ -1,19 +1,13 @@
 -- What the other actors and the waiting messages have to fit is preserved while an actor moves.
 use Rattle.std.specs.Prelude.{◌≡◌, ◌≢◌, ℕ, suc, ◌<◌, ◌≤◌, true, not, List, [], ◌∷◌, ◌++◌, length, Option, Some, None, nat_eq, nat_lt, refl}
-use Rattle.std.proofs.Common.{ap, sym, subst, ◌∙◌, arith}
-use Rattle.std.proofs.lemmas.Bool.{ne_eqb, lt-ltb}
+use Rattle.std.proofs.{Common.{ap, sym, subst, ◌∙◌, arith}, lemmas.Bool.{ne_eqb, lt-ltb}}
 use Rattle.pc_heap.specs.declared.value.Value.{Value}
 use Rattle.pc_core.specs.CoreData.{CoreData}
 use Rattle.pc_ann.specs.declared.annotation.Ann.{Ann}
-use Rattle.pc_semantics.specs.declared.frames.Frame.{Frame}
-use Rattle.pc_semantics.specs.declared.mailbox.Message.{Message}
+use Rattle.pc_semantics.specs.{declared.frames.Frame.Frame, declared.mailbox.Message.Message}
 use Rattle.pc_valid.specs.Words.{Ty}
 use Rattle.pc_caps.specs.declared.capability.Form.{Form}
-use Rattle.pc_regions.proofs.World.{Over, World, Opened, InMail, InSlot, OnStack, Fits, AliasSome}
-use Rattle.pc_regions.proofs.StackForms.{Entry}
-use Rattle.pc_regions.proofs.Fitting.{TopAlias, FramesFit, MessageFits, MailFits}
-use Rattle.pc_regions.proofs.MoveFits.{Others}
-use Rattle.pc_regions.proofs.Waiting.{holds_kept, wait_kept}
+use Rattle.pc_regions.proofs.{World.{Over, World, Opened, InMail, InSlot, OnStack, Fits, AliasSome}, StackForms.Entry, Fitting.{TopAlias, FramesFit, MessageFits, MailFits}, MoveFits.Others, Waiting.{holds_kept, wait_kept}}
 
 module _ (core : CoreData) (ann : Ann) (w w' : World) (i count : ℕ) (to : Option ℕ) (o : Others w w' i count to) where
   -- ---- frames of another actor

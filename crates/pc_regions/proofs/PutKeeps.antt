@@ -1,58 +1,19 @@
 -- The task Put, by regions: the origin is let go, the value goes to the field, and what the field held is pushed.
 use Rattle.std.specs.Prelude.{◌≡◌, ℕ, suc, ◌+◌, ◌<◌, ◌≤◌, Bool, true, ◌&&◌, List, [], ◌∷◌, length, Option, Some, None, slice_get, refl}
-use Rattle.std.proofs.Common.{inl, inr, ap, sym, subst, ◌∙◌, arith}
-use Rattle.std.proofs.lemmas.Bool.{and_parts}
-use Rattle.std.proofs.lemmas.Option.{same_Some}
-use Rattle.pc_heap.specs.Objects.{ObjectMap, with_value}
-use Rattle.pc_heap.specs.declared.value.Value.{Value}
-use Rattle.pc_heap.specs.declared.value.Value.TheVariants.{At}
-use Rattle.pc_caps.specs.Computed.{is_below, fits, may_write}
-use Rattle.pc_caps.specs.Tables.{unalias}
-use Rattle.pc_caps.specs.declared.capability.Cap.{Cap}
-use Rattle.pc_caps.specs.declared.capability.Form.{Form}
+use Rattle.std.proofs.{Common.{inl, inr, ap, sym, subst, ◌∙◌, arith}, lemmas.Bool.and_parts, lemmas.Option.same_Some}
+use Rattle.pc_heap.specs.{Objects.{ObjectMap, with_value}, declared.value.Value.Value, declared.value.Value.TheVariants.At}
+use Rattle.pc_caps.specs.{Computed.{is_below, fits, may_write}, Tables.unalias, declared.capability.Cap.Cap, declared.capability.Form.Form}
 use Rattle.pc_caps.specs.declared.capability.Form.TheVariants as form
-use Rattle.pc_core.specs.declared.declarations.EntityDef.{EntityDef}
-use Rattle.pc_core.specs.declared.declarations.FieldInfo.{FieldInfo}
-use Rattle.pc_core.specs.CoreData.{CoreData}
+use Rattle.pc_core.specs.{declared.declarations.EntityDef.EntityDef, declared.declarations.FieldInfo.FieldInfo, CoreData.CoreData}
 use Rattle.pc_masks.specs.declared.mask.Mask.{Mask}
 use Rattle.pc_ann.specs.declared.annotation.Ann.{Ann}
-use Rattle.pc_semantics.specs.declared.frames.Frame.{Frame}
+use Rattle.pc_semantics.specs.{declared.frames.Frame.Frame, Configurations.{Around, Writes, with_stack, pushed}, Parts.value_or_none, Calls.put_task}
 use Rattle.pc_semantics.specs.declared.frames.Task.TheVariants as task
-use Rattle.pc_semantics.specs.Configurations.{Around, Writes, with_stack, pushed}
-use Rattle.pc_semantics.specs.Parts.{value_or_none}
-use Rattle.pc_semantics.specs.Calls.{put_task}
 use Rattle.pc_sub.specs.Computed.{is_sub}
 use Rattle.pc_rules.specs.Parts.{goes_to, type_of}
 use Rattle.pc_valid.specs.Words.{Ty, place}
-use Rattle.pc_types.proofs.Types.{OfType, OfSome}
-use Rattle.pc_types.proofs.Tasks.{writes, FinishOk, TasksOk}
-use Rattle.pc_types.proofs.Frames.{HasFields}
-use Rattle.pc_types.proofs.Moves.{Runs}
-use Rattle.pc_regions.proofs.World.{Place, InSlot, OnStack, InField, World, Fits, FitsSome, Alias, AliasSome}
-use Rattle.pc_regions.proofs.StackForms.{Entry, FinishRises, TasksRise, piled}
-use Rattle.pc_regions.proofs.Fitting.{StackFits, OpenedTo}
-use Rattle.pc_regions.proofs.MoveFits.{Situated, RegionMoveOk}
-use Rattle.pc_regions.proofs.Changes.{Shifts}
-use Rattle.pc_regions.proofs.Settled.{SettleLaw}
-use Rattle.pc_regions.proofs.Climbed.{ClimbLaw}
-use Rattle.pc_types.proofs.Needs.{Needs}
-use Rattle.pc_types.proofs.Growth.{Extends, some_kept}
-use Rattle.pc_types.proofs.Heaps.{write_extends}
-use Rattle.pc_types.proofs.Finish.{rule_is}
-use Rattle.pc_types.proofs.Origins.{Origin}
-use Rattle.pc_types.proofs.PutTask.{PutRule, OwnPutRule, own_old_there, own_old_ok, put_kind}
-use Rattle.pc_regions.proofs.Accesses.{top_fits, constructor_ref}
-use Rattle.pc_regions.proofs.CallerKept.{from_lower, from_under, live_left, follows_at}
-use Rattle.pc_regions.proofs.FieldDrawn.{let_go_takes, let_go_writes, other_field, Through}
-use Rattle.pc_regions.proofs.CallBegins.{finish_at}
-use Rattle.pc_regions.proofs.FieldSeen.{let_go}
-use Rattle.pc_regions.proofs.ArgumentsSettle.{other_place}
-use Rattle.pc_regions.proofs.FieldPut.{put_gone, put_far, place_shift, other_depth, origin_through, Written, put_new, put_old}
-use Rattle.pc_regions.proofs.Rising.{Pushes, rise, others_both}
-use Rattle.pc_regions.proofs.Shifts.{others_kept, below_kept, shifts_none, shifts_then}
-use Rattle.pc_regions.proofs.Schedules.{KeepsRegions}
-use Rattle.pc_regions.proofs.FieldWritten.{world_written, fields_written}
-use Rattle.pc_regions.proofs.Taken.{TakeLaw}
+use Rattle.pc_types.proofs.{Types.{OfType, OfSome}, Tasks.{writes, FinishOk, TasksOk}, Frames.HasFields, Moves.Runs, Needs.Needs, Growth.{Extends, some_kept}, Heaps.write_extends, Finish.rule_is, Origins.Origin, PutTask.{PutRule, OwnPutRule, own_old_there, own_old_ok, put_kind}}
+use Rattle.pc_regions.proofs.{World.{Place, InSlot, OnStack, InField, World, Fits, FitsSome, Alias, AliasSome}, StackForms.{Entry, FinishRises, TasksRise, piled}, Fitting.{StackFits, OpenedTo}, MoveFits.{Situated, RegionMoveOk}, Changes.Shifts, Settled.SettleLaw, Climbed.ClimbLaw, Accesses.{top_fits, constructor_ref}, CallerKept.{from_lower, from_under, live_left, follows_at}, FieldDrawn.{let_go_takes, let_go_writes, other_field, Through}, CallBegins.finish_at, FieldSeen.let_go, ArgumentsSettle.other_place, FieldPut.{put_gone, put_far, place_shift, other_depth, origin_through, Written, put_new, put_old}, Rising.{Pushes, rise, others_both}, Shifts.{others_kept, below_kept, shifts_none, shifts_then}, Schedules.KeepsRegions, FieldWritten.{world_written, fields_written}, Taken.TakeLaw}
 
 -- The field of an origin is the one that its object has.
 field_same : (core : CoreData) (objects : ObjectMap) (d name k : ℕ) (p : FieldInfo) (v : Value) (o : Origin core objects d name k p v) (e : EntityDef) (q : FieldInfo) → slice_get core.entities o.object.entity ≡ Some e → slice_get e.fields k ≡ Some q → q ≡ p

@@ -1,59 +1,20 @@
 -- A method ends, in regions: what it leaves goes to the frame that waits for it, and up from there.
 use Rattle.std.specs.Prelude.{◌≡◌, ℕ, suc, ◌+◌, ◌-◌, ◌<◌, ◌≤◌, Bool, true, false, ◌&&◌, ◌||◌, List, [], ◌∷◌, length, Option, Some, None, nat_eq, nat_lt, refl}
-use Rattle.std.proofs.Common.{inl, inr, ap, sym, subst, ◌∙◌, arith}
-use Rattle.std.proofs.lemmas.Bool.{eq-eqb, ne_eqb, le-ltb, and_from, and_right, and_parts, or_left, or_right, or_from}
-use Rattle.pc_heap.specs.Objects.{ObjectMap}
-use Rattle.pc_heap.specs.declared.value.Value.{Value}
-use Rattle.pc_heap.specs.declared.value.Value.TheVariants.{Num, Truth, Text, Prim, At}
-use Rattle.pc_caps.specs.Computed.{is_below}
-use Rattle.pc_caps.specs.Tables.{unalias, sendable_form}
-use Rattle.pc_caps.specs.declared.capability.Cap.{Cap}
+use Rattle.std.proofs.{Common.{inl, inr, ap, sym, subst, ◌∙◌, arith}, lemmas.Bool.{eq-eqb, ne_eqb, le-ltb, and_from, and_right, and_parts, or_left, or_right, or_from}, lemmas.Option.same_Some}
+use Rattle.pc_heap.specs.{Objects.ObjectMap, declared.value.Value.Value, declared.value.Value.TheVariants.{Num, Truth, Text, Prim, At}, declared.value.Address.Address}
+use Rattle.pc_caps.specs.{Computed.is_below, Tables.{unalias, sendable_form}, declared.capability.Cap.Cap, declared.capability.Form.Form}
 use Rattle.pc_caps.specs.declared.capability.Cap.TheVariants as cap
-use Rattle.pc_heap.specs.declared.value.Address.{Address}
 use Rattle.pc_sub.specs.Declarations.{isolates}
-use Rattle.pc_caps.specs.declared.capability.Form.{Form}
 use Rattle.pc_caps.specs.declared.capability.Form.TheVariants as form
-use Rattle.pc_core.specs.declared.declarations.Method.{Method}
-use Rattle.pc_core.specs.declared.declarations.MethodKind.{MethodKind}
+use Rattle.pc_core.specs.{declared.declarations.Method.Method, declared.declarations.MethodKind.MethodKind, Methods.ResultFits, CoreData.CoreData}
 use Rattle.pc_core.specs.declared.declarations.MethodKind.TheVariants as method
-use Rattle.pc_core.specs.Methods.{ResultFits}
-use Rattle.pc_core.specs.CoreData.{CoreData}
 use Rattle.pc_ann.specs.declared.annotation.Ann.{Ann}
-use Rattle.pc_semantics.specs.declared.frames.Frame.{Frame}
-use Rattle.pc_semantics.specs.declared.frames.Task.{Task}
+use Rattle.pc_semantics.specs.{declared.frames.Frame.Frame, declared.frames.Task.Task, Calls.leave, Configurations.Around, Step.left}
 use Rattle.pc_semantics.specs.declared.frames.Task.TheVariants as task
-use Rattle.pc_semantics.specs.Calls.{leave}
-use Rattle.std.proofs.lemmas.Option.{same_Some}
-use Rattle.pc_semantics.specs.Configurations.{Around}
-use Rattle.pc_semantics.specs.Step.{left}
 use Rattle.pc_valid.specs.Words.{Ty}
-use Rattle.pc_lists.proofs.Bools.{false_true}
-use Rattle.pc_types.proofs.Types.{OfType, OfSome, StackOk}
-use Rattle.pc_types.proofs.Tasks.{ReturnOk}
-use Rattle.pc_types.proofs.Frames.{leaves}
-use Rattle.pc_types.proofs.Moves.{Runs}
-use Rattle.pc_regions.proofs.World.{Place, InSlot, OnStack, InField, InMail, Opened, Held, Child, World, Fits, FitsSome, AliasIn, Alias, AliasSome, Over, WorldOk}
-use Rattle.pc_regions.proofs.StackForms.{Entry, top_of}
-use Rattle.pc_regions.proofs.Fitting.{StackFits, TopAlias, Entered, GoesTo, SendableSome, Awaits, WaitFits, FramesFit, FieldsFit}
-use Rattle.pc_regions.proofs.MoveFits.{elsewhere, Turned, RegionMoveOk, Situated}
-use Rattle.pc_regions.proofs.Changes.{standing, lowered, without_last, Shifts}
-use Rattle.pc_regions.proofs.ContextLaws.{higher, ended, Ends}
-use Rattle.pc_regions.proofs.Climbed.{ClimbLaw}
-use Rattle.pc_types.proofs.Needs.{Needs}
-use Rattle.pc_types.proofs.Basic.{of_lower, some_lower}
-use Rattle.pc_types.proofs.Values.{top_is}
-use Rattle.pc_regions.proofs.Schedules.{KeepsRegions}
-use Rattle.pc_types.proofs.Tables.{below_sees}
-use Rattle.pc_regions.proofs.ContextGoes.{ends, falls}
-use Rattle.pc_regions.proofs.SameRegions.{number_here, role_here}
-use Rattle.pc_regions.proofs.StandsOtherwise.{stand_here, held_used}
-use Rattle.pc_regions.proofs.Closing.{closed_shifts}
-use Rattle.pc_regions.proofs.ArgumentsSettle.{lower_still, near_home, near_sent}
-use Rattle.pc_regions.proofs.Shifts.{others_kept, fields_kept, shifts_none, shifts_less, shifts_then, lower_shift}
-use Rattle.pc_regions.proofs.Settling.{settle}
-use Rattle.pc_regions.proofs.Rising.{Pushes, rise, others_both, not_here}
-use Rattle.pc_regions.proofs.Waiting.{top_down, this_low, slots_low, stack_low, wait_low}
-use Rattle.pc_types.proofs.ReturnTask.{built_typed}
+use Rattle.pc_base.proofs.Bools.{false_true}
+use Rattle.pc_types.proofs.{Types.{OfType, OfSome, StackOk}, Tasks.ReturnOk, Frames.leaves, Moves.Runs, Needs.Needs, Basic.{of_lower, some_lower}, Values.top_is, Tables.below_sees, ReturnTask.built_typed}
+use Rattle.pc_regions.proofs.{World.{Place, InSlot, OnStack, InField, InMail, Opened, Held, Child, World, Fits, FitsSome, AliasIn, Alias, AliasSome, Over, WorldOk}, StackForms.{Entry, top_of}, Fitting.{StackFits, TopAlias, Entered, GoesTo, SendableSome, Awaits, WaitFits, FramesFit, FieldsFit}, MoveFits.{elsewhere, Turned, RegionMoveOk, Situated}, Changes.{standing, lowered, without_last, Shifts}, ContextLaws.{higher, ended, Ends}, Climbed.ClimbLaw, Schedules.KeepsRegions, ContextGoes.{ends, falls}, SameRegions.{number_here, role_here}, StandsOtherwise.{stand_here, held_used}, Closing.closed_shifts, ArgumentsSettle.{lower_still, near_home, near_sent}, Shifts.{others_kept, fields_kept, shifts_none, shifts_less, shifts_then, lower_shift}, Settling.settle, Rising.{Pushes, rise, others_both, not_here}, Waiting.{top_down, this_low, slots_low, stack_low, wait_low}}
 
 -- ---- what a frame leaves that ends
 

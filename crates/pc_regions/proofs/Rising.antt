@@ -1,30 +1,16 @@
 -- A value is pushed in a running frame, and goes up its way: the world that the climb leaves fits the frame that goes on.
 use Rattle.std.specs.Prelude.{◌≡◌, ℕ, ◌+◌, ◌<◌, ◌≤◌, Bool, true, false, not, ◌&&◌, ◌||◌, List, [], ◌∷◌, length, Option, Some, None, nat_eq, nat_lt, refl}
-use Rattle.std.proofs.Common.{ap, sym, subst, ◌∙◌, arith}
-use Rattle.std.proofs.lemmas.Bool.{ne_eqb, le-ltb, or_from, and_right}
-use Rattle.pc_heap.specs.Objects.{ObjectMap}
-use Rattle.pc_heap.specs.declared.value.Value.{Value}
+use Rattle.std.proofs.{Common.{ap, sym, subst, ◌∙◌, arith}, lemmas.Bool.{ne_eqb, le-ltb, or_from, and_right}}
+use Rattle.pc_heap.specs.{Objects.ObjectMap, declared.value.Value.Value}
 use Rattle.pc_caps.specs.Tables.{unalias}
 use Rattle.pc_core.specs.CoreData.{CoreData}
 use Rattle.pc_masks.specs.declared.mask.Mask.{Mask}
 use Rattle.pc_ann.specs.declared.annotation.Ann.{Ann}
-use Rattle.pc_semantics.specs.declared.frames.Frame.{Frame}
-use Rattle.pc_semantics.specs.declared.frames.Task.{Task}
-use Rattle.pc_semantics.specs.Configurations.{Around, Goes}
+use Rattle.pc_semantics.specs.{declared.frames.Frame.Frame, declared.frames.Task.Task, Configurations.{Around, Goes}}
 use Rattle.pc_valid.specs.Words.{Ty}
-use Rattle.pc_lists.proofs.Bools.{false_true}
-use Rattle.pc_types.proofs.Types.{OfSome}
-use Rattle.pc_types.proofs.Tasks.{Within}
-use Rattle.pc_regions.proofs.World.{Place, InSlot, OnStack, InField, InMail, World, FitsSome, Alias, AliasSome, WorldOk}
-use Rattle.pc_regions.proofs.StackForms.{Entry, Shallow, SlotsShallow, Rises, TasksRise, top_of, uses_top}
-use Rattle.pc_regions.proofs.Fitting.{ThisFits, SlotsFit, StackFits, OpenedTo, WaitFits, FieldsFit, TopAlias}
-use Rattle.pc_regions.proofs.MoveFits.{elsewhere, one_more, Others, Turned, RegionMoveOk, Situated}
-use Rattle.pc_regions.proofs.Changes.{Shifts}
-use Rattle.pc_regions.proofs.Climbed.{passed, ClimbLaw}
-use Rattle.pc_types.proofs.Basic.{within_trans}
-use Rattle.pc_regions.proofs.Shifts.{others_kept, fields_kept, below_kept, no_more}
-use Rattle.pc_regions.proofs.ContextLaws.{higher}
-use Rattle.pc_regions.proofs.Waiting.{slot_depth}
+use Rattle.pc_base.proofs.Bools.{false_true}
+use Rattle.pc_types.proofs.{Types.OfSome, Tasks.Within, Basic.within_trans}
+use Rattle.pc_regions.proofs.{World.{Place, InSlot, OnStack, InField, InMail, World, FitsSome, Alias, AliasSome, WorldOk}, StackForms.{Entry, Shallow, SlotsShallow, Rises, TasksRise, top_of, uses_top}, Fitting.{ThisFits, SlotsFit, StackFits, OpenedTo, WaitFits, FieldsFit, TopAlias}, MoveFits.{elsewhere, one_more, Others, Turned, RegionMoveOk, Situated}, Changes.Shifts, Climbed.{passed, ClimbLaw}, Shifts.{others_kept, fields_kept, below_kept, no_more}, ContextLaws.higher, Waiting.slot_depth}
 
 -- ---- what is passed
 

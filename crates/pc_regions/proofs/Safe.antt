@@ -1,22 +1,9 @@
 -- From a valid annotation to every step of every schedule: no two actors race, and what waits is let alone.
-use Rattle.pc_semantics.specs.Configurations.{start}
-use Rattle.pc_semantics.specs.Step.{after}
+use Rattle.pc_semantics.specs.{Configurations.start, Step.after}
 use Rattle.pc_rules.proofs.Derivations.{to_valid}
 use Rattle.pc_regions.specs.Laws.{ValidIsSafe}
-use Rattle.pc_types.proofs.Needs.{Needs}
-use Rattle.pc_types.proofs.Needed.{needed}
-use Rattle.pc_types.proofs.Steps.{run_ok}
-use Rattle.pc_types.proofs.AllTasks.{keeps}
-use Rattle.pc_types.proofs.Takes.{takes}
-use Rattle.pc_types.proofs.Starts.{start_typed}
-use Rattle.pc_types.proofs.Typed.{WellTyped}
-use Rattle.pc_regions.proofs.Fitting.{HasRegions}
-use Rattle.pc_regions.proofs.NoRace.{quiet, races_not}
-use Rattle.pc_regions.proofs.StartFits.{start_in_regions}
-use Rattle.pc_regions.proofs.Schedules.{run_in_regions}
-use Rattle.pc_regions.proofs.TakesMessage.{takes_regions}
-use Rattle.pc_regions.proofs.AllKeep.{keeps_regions}
-use Rattle.pc_types.proofs.Sound.{accepted_never_lacks}
+use Rattle.pc_types.proofs.{Needs.Needs, Needed.needed, Steps.run_ok, AllTasks.keeps, Takes.takes, Starts.start_typed, Typed.WellTyped, Sound.accepted_never_lacks}
+use Rattle.pc_regions.proofs.{Fitting.HasRegions, NoRace.{quiet, races_not}, StartFits.start_in_regions, Schedules.run_in_regions, TakesMessage.takes_regions, AllKeep.keeps_regions}
 
 pub valid_is_safe : ValidIsSafe
 valid_is_safe core ann formed valid list =

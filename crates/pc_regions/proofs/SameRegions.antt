@@ -1,15 +1,11 @@
 -- A world in which the regions of objects are unchanged: what is frozen, seen, or under a level stays so if what it
 -- rests on does.
 use Rattle.std.specs.Prelude.{◌≡◌, ℕ, ◌≤◌, Bool, true, false, ◌&&◌, cond, Option, Some, None, nat_eq, refl}
-use Rattle.std.proofs.Common.{inl, inr, ap, sym, subst, ◌∙◌}
-use Rattle.std.proofs.lemmas.Bool.{eq-eqb, ne_eqb, cases_eq}
-use Rattle.pc_heap.specs.declared.value.Address.{Address}
-use Rattle.pc_heap.specs.declared.value.Value.{Value}
-use Rattle.pc_heap.specs.declared.value.Value.TheVariants.{Num, Truth, Text, Prim, At}
+use Rattle.std.proofs.{Common.{inl, inr, ap, sym, subst, ◌∙◌}, lemmas.Bool.{eq-eqb, ne_eqb, cases_eq}}
+use Rattle.pc_heap.specs.{declared.value.Address.Address, declared.value.Value.Value, declared.value.Value.TheVariants.{Num, Truth, Text, Prim, At}}
 use Rattle.pc_caps.specs.declared.capability.Form.{Form}
 use Rattle.pc_caps.specs.declared.capability.Form.TheVariants as form
-use Rattle.pc_regions.proofs.World.{Place, InSlot, InField, Froze, Loose, Held, Child, World, home, Frozen, ice, in_ice, under_ice, Seen, same, under, frozen, steady, Over, over_loose, over_slot, over_own, over_field, over_part, over_child, FitsIn, Fits, AliasIn, Alias}
-use Rattle.pc_regions.proofs.Changes.{with_context, with_number, with_role}
+use Rattle.pc_regions.proofs.{World.{Place, InSlot, InField, Froze, Loose, Held, Child, World, home, Frozen, ice, in_ice, under_ice, Seen, same, under, frozen, steady, Over, over_loose, over_slot, over_own, over_field, over_part, over_child, FitsIn, Fits, AliasIn, Alias}, Changes.{with_context, with_number, with_role}}
 
 module _
     (w w' : World) (region : (a : Address) → w'.region a ≡ w.region a) (ices : (x : ℕ) → w.stands x ≡ Froze → w'.stands x ≡ Froze)

@@ -2,31 +2,12 @@
 -- leads to another one.
 use Rattle.std.specs.Prelude.{◌≡◌, ℕ, true, List, [], ◌∷◌, Option, Some, None, slice_get, refl}
 use Rattle.std.proofs.Common.{inl, inr, sym, subst, ◌∙◌}
-use Rattle.pc_lists.proofs.Gets.{get_below}
+use Rattle.pc_base.proofs.Gets.{get_below}
 use Rattle.pc_core.specs.CoreData.{CoreData}
 use Rattle.pc_ann.specs.declared.annotation.Ann.{Ann}
-use Rattle.pc_semantics.specs.declared.actors.Actor.{Actor}
-use Rattle.pc_semantics.specs.declared.frames.Frame.{Frame}
-use Rattle.pc_semantics.specs.declared.frames.Task.{Task}
-use Rattle.pc_semantics.specs.declared.mailbox.Message.{Message}
-use Rattle.pc_semantics.specs.declared.outcome.Outcome.{Outcome}
-use Rattle.pc_semantics.specs.declared.outcome.Outcome.TheVariants.{Moved, Skipped, Lacks, TooLong}
-use Rattle.pc_semantics.specs.Configurations.{Configuration, Around}
-use Rattle.pc_semantics.specs.Step.{task_move, around, take, take_first, run_frames, step, followed, run_from}
-use Rattle.pc_semantics.specs.Parts.{run_task, step_of}
-use Rattle.pc_types.proofs.Tasks.{TasksOk}
-use Rattle.pc_types.proofs.Frames.{FramesOk}
-use Rattle.pc_types.proofs.Typed.{WellTyped, ActorOk}
-use Rattle.pc_types.proofs.Moves.{Runs}
-use Rattle.pc_regions.proofs.World.{World}
-use Rattle.pc_regions.proofs.StackForms.{TasksRise, uses_top}
-use Rattle.pc_regions.proofs.Fitting.{TopAlias, FramesFit, InRegions, HasRegions, LeadsOn}
-use Rattle.pc_regions.proofs.MoveFits.{RegionMoveOk, Situated}
-use Rattle.pc_types.proofs.Needs.{Needs}
-use Rattle.pc_types.proofs.Steps.{step_ok, some_frames}
-use Rattle.pc_types.proofs.AllTasks.{keeps}
-use Rattle.pc_types.proofs.Takes.{takes}
-use Rattle.pc_regions.proofs.MoveMade.{made_regions}
+use Rattle.pc_semantics.specs.{declared.actors.Actor.Actor, declared.frames.Frame.Frame, declared.frames.Task.Task, declared.mailbox.Message.Message, declared.outcome.Outcome.Outcome, declared.outcome.Outcome.TheVariants.{Moved, Skipped, Lacks, TooLong}, Configurations.{Configuration, Around}, Step.{task_move, around, take, take_first, run_frames, step, followed, run_from}, Parts.{run_task, step_of}}
+use Rattle.pc_types.proofs.{Tasks.TasksOk, Frames.FramesOk, Typed.{WellTyped, ActorOk}, Moves.Runs, Needs.Needs, Steps.{step_ok, some_frames}, AllTasks.keeps, Takes.takes}
+use Rattle.pc_regions.proofs.{World.World, StackForms.{TasksRise, uses_top}, Fitting.{TopAlias, FramesFit, InRegions, HasRegions, LeadsOn}, MoveFits.{RegionMoveOk, Situated}, MoveMade.made_regions}
 
 -- ---- what is to be shown of each task, and of the first message
 

@@ -2,16 +2,11 @@
 -- becomes a child or a part of the one that the place lives with, freezes, or is loose; a value of a form that shares
 -- its region with others just comes. Nothing is over what a stack holds, so everything that is over another region
 -- stays.
-use Rattle.std.specs.Prelude.{◌≡◌, ◌≢◌, ◌⊎◌, ℕ, ◌<◌, ◌≤◌, Bool, true, Option, Some}
-use Rattle.std.specs.FinMap.{get}
-use Rattle.pc_heap.specs.Objects.{ObjectMap, Object}
-use Rattle.pc_heap.specs.declared.value.Value.{Value}
-use Rattle.pc_caps.specs.Computed.{is_below}
-use Rattle.pc_caps.specs.Tables.{sendable_form}
-use Rattle.pc_caps.specs.declared.capability.Form.{Form}
+use Rattle.std.specs.{Prelude.{◌≡◌, ◌≢◌, ◌⊎◌, ℕ, ◌<◌, ◌≤◌, Bool, true, Option, Some}, FinMap.get}
+use Rattle.pc_heap.specs.{Objects.{ObjectMap, Object}, declared.value.Value.Value}
+use Rattle.pc_caps.specs.{Computed.is_below, Tables.sendable_form, declared.capability.Form.Form}
 use Rattle.pc_caps.specs.declared.capability.Form.TheVariants as form
-use Rattle.pc_regions.proofs.World.{Place, InSlot, OnStack, InField, InMail, Held, Child, World, home, Fits, Alias, WorldOk}
-use Rattle.pc_regions.proofs.Calm.{Calm}
+use Rattle.pc_regions.proofs.{World.{Place, InSlot, OnStack, InField, InMail, Held, Child, World, home, Fits, Alias, WorldOk}, Calm.Calm}
 
 -- ---- where a value may come to
 

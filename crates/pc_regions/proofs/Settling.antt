@@ -1,26 +1,13 @@
 -- A value on a stack settles at each place where it lands, near enough.
-use Rattle.std.specs.Prelude.{◌≡◌, ◌≢◌, ◌⊎◌, ℕ, ◌<◌, ◌≤◌, Bool, true, false, Option, Some, None, refl}
-use Rattle.std.specs.FinMap.{get}
-use Rattle.std.proofs.Common.{inl, inr, ap, sym, subst, ◌∙◌, arith}
-use Rattle.std.proofs.lemmas.Bool.{cases_lt}
-use Rattle.std.proofs.lemmas.Option.{none-some}
-use Rattle.pc_heap.specs.Objects.{ObjectMap, Object}
-use Rattle.pc_heap.specs.declared.value.Address.{Address}
-use Rattle.pc_heap.specs.declared.value.Value.{Value}
-use Rattle.pc_heap.specs.declared.value.Value.TheVariants.{Num, Truth, Text, Prim, At}
-use Rattle.pc_caps.specs.Computed.{is_below}
-use Rattle.pc_caps.specs.Tables.{sendable_form}
-use Rattle.pc_caps.specs.declared.capability.Form.{Form}
+use Rattle.std.specs.{Prelude.{◌≡◌, ◌≢◌, ◌⊎◌, ℕ, ◌<◌, ◌≤◌, Bool, true, false, Option, Some, None, refl}, FinMap.get}
+use Rattle.std.proofs.{Common.{inl, inr, ap, sym, subst, ◌∙◌, arith}, lemmas.Bool.cases_lt, lemmas.Option.none-some}
+use Rattle.pc_heap.specs.{Objects.{ObjectMap, Object}, declared.value.Address.Address, declared.value.Value.Value, declared.value.Value.TheVariants.{Num, Truth, Text, Prim, At}}
+use Rattle.pc_caps.specs.{Computed.is_below, Tables.sendable_form, declared.capability.Form.Form}
 use Rattle.pc_caps.specs.declared.capability.Form.TheVariants as form
-use Rattle.pc_lists.proofs.Bools.{false_true}
-use Rattle.pc_regions.proofs.World.{Place, InSlot, OnStack, InField, InMail, Standing, Unused, Froze, Opened, Loose, Held, Child, World, home, Frozen, ice, Belongs, stack, child, Seen, same, under, frozen, steady, Over, over_loose, over_slot, over_own, over_field, over_part, over_child, FitsIn, Fits, AliasIn, Alias, WorldOk}
-use Rattle.pc_regions.proofs.Changes.{standing, renamed, child_renamed, merged}
-use Rattle.pc_regions.proofs.Settled.{Lands, NearTrn, Near, Settled, SettleLaw}
-use Rattle.pc_regions.proofs.OneHolder.{not_frozen, context_belongs}
-use Rattle.pc_regions.proofs.StandsOtherwise.{stand_here, stand_other, none_over_stack, home_standing}
+use Rattle.pc_base.proofs.Bools.{false_true}
+use Rattle.pc_regions.proofs.{World.{Place, InSlot, OnStack, InField, InMail, Standing, Unused, Froze, Opened, Loose, Held, Child, World, home, Frozen, ice, Belongs, stack, child, Seen, same, under, frozen, steady, Over, over_loose, over_slot, over_own, over_field, over_part, over_child, FitsIn, Fits, AliasIn, Alias, WorldOk}, Changes.{standing, renamed, child_renamed, merged}, Settled.{Lands, NearTrn, Near, Settled, SettleLaw}, OneHolder.{not_frozen, context_belongs}, StandsOtherwise.{stand_here, stand_other, none_over_stack, home_standing}, Calm.calm_same}
 use Rattle.pc_regions.proofs.StandsOtherwise as stands
 use Rattle.pc_regions.proofs.Merge as merge
-use Rattle.pc_regions.proofs.Calm.{calm_same}
 
 -- ---- how regions stand
 

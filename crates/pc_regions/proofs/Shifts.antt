@@ -1,17 +1,11 @@
 -- A shift of the world keeps what other actors, messages, fields and the frames below have to fit.
 use Rattle.std.specs.Prelude.{◌≡◌, ◌⊎◌, ℕ, ◌+◌, ◌<◌, ◌≤◌, Bool, true, false, ◌||◌, List, length, None, refl, ◌≢◌}
-use Rattle.std.proofs.Common.{inl, inr, sym, subst, ◌∙◌, arith}
-use Rattle.std.proofs.lemmas.Bool.{or_parts, or_from}
-use Rattle.pc_heap.specs.Objects.{ObjectMap}
-use Rattle.pc_heap.specs.declared.value.Address.{Address}
+use Rattle.std.proofs.{Common.{inl, inr, sym, subst, ◌∙◌, arith}, lemmas.Bool.{or_parts, or_from}}
+use Rattle.pc_heap.specs.{Objects.ObjectMap, declared.value.Address.Address}
 use Rattle.pc_core.specs.CoreData.{CoreData}
 use Rattle.pc_ann.specs.declared.annotation.Ann.{Ann}
 use Rattle.pc_semantics.specs.declared.frames.Frame.{Frame}
-use Rattle.pc_regions.proofs.World.{Place, InSlot, OnStack, InField, World, Alias, WorldOk}
-use Rattle.pc_regions.proofs.Fitting.{FieldsFit, WaitFits}
-use Rattle.pc_regions.proofs.MoveFits.{elsewhere, Others}
-use Rattle.pc_regions.proofs.Changes.{Shifts}
-use Rattle.pc_regions.proofs.Waiting.{wait_kept, wait_low}
+use Rattle.pc_regions.proofs.{World.{Place, InSlot, OnStack, InField, World, Alias, WorldOk}, Fitting.{FieldsFit, WaitFits}, MoveFits.{elsewhere, Others}, Changes.Shifts, Waiting.{wait_kept, wait_low}}
 
 pub no_more : (n m : ℕ) → n ≡ m → n ≡ m + 0
 no_more n m e = omega (arith, e)

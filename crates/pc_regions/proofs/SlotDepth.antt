@@ -1,29 +1,13 @@
 -- The slot of a definition or an assignment has the node's depth, or what it holds may be sent.
 use Rattle.std.specs.Prelude.{◌≡◌, ◌≢◌, ◌⊎◌, ℕ, zero, suc, ◌+◌, ◌-◌, ◌<◌, true, ◌&&◌, ◌∷◌, ◌++◌, map, length, Some, nat_eq, slice_get, refl}
-use Rattle.std.proofs.Common.{inl, inr, ap, sym, subst, ◌∙◌, arith}
-use Rattle.std.proofs.lemmas.Bool.{and_parts, eqb-true, or_cases}
-use Rattle.std.proofs.lemmas.List.{length-map}
-use Rattle.std.proofs.lemmas.Option.{same_Some}
-use Rattle.pc_caps.specs.Tables.{sendable}
-use Rattle.pc_caps.specs.declared.capability.Cap.{Cap}
-use Rattle.pc_core.specs.declared.declarations.Method.{Method}
-use Rattle.pc_core.specs.declared.nodes.Node.{Node}
+use Rattle.std.proofs.{Common.{inl, inr, ap, sym, subst, ◌∙◌, arith}, lemmas.Bool.{and_parts, eqb-true, or_cases}, lemmas.List.length-map, lemmas.Option.same_Some}
+use Rattle.pc_caps.specs.{Tables.sendable, declared.capability.Cap.Cap}
+use Rattle.pc_core.specs.{declared.declarations.Method.Method, declared.nodes.Node.Node, declared.nodes.Slot.Slot, CoreData.{CoreData, own_slots}, Formed.Formed, Methods.{LocalFits, SlotsFit, is_local}, Entities.{this_slot, param_slot}, Nodes.{NamesFit, NamesLocal}}
 use Rattle.pc_core.specs.declared.nodes.NodeKind.TheVariants as nodes
-use Rattle.pc_core.specs.declared.nodes.Slot.{Slot}
-use Rattle.pc_core.specs.CoreData.{CoreData, own_slots}
-use Rattle.pc_core.specs.Formed.{Formed}
-use Rattle.pc_lists.proofs.Gets.{append_get, map_get, range_get}
-use Rattle.pc_lists.proofs.Options.{bind_some, kept}
-use Rattle.pc_core.specs.Methods.{LocalFits, SlotsFit, is_local}
-use Rattle.pc_core.specs.Entities.{this_slot, param_slot}
-use Rattle.pc_core.specs.Nodes.{NamesFit, NamesLocal}
-use Rattle.pc_ann.specs.declared.annotation.Note.{Note}
-use Rattle.pc_ann.specs.declared.annotation.Ann.{Ann}
-use Rattle.pc_rules.specs.Parts.{goes_to, reachable, type_of, one_child}
+use Rattle.pc_base.proofs.{Gets.{append_get, map_get, range_get}, Options.{bind_some, kept}, Bools.false_true}
+use Rattle.pc_ann.specs.{declared.annotation.Note.Note, declared.annotation.Ann.Ann}
+use Rattle.pc_rules.specs.{Parts.{goes_to, reachable, type_of, one_child}, Rules.said_by, Values.{is_var, assigns}}
 use Rattle.pc_valid.specs.Words.{before}
-use Rattle.pc_rules.specs.Rules.{said_by}
-use Rattle.pc_lists.proofs.Bools.{false_true}
-use Rattle.pc_rules.specs.Values.{is_var, assigns}
 use Rattle.pc_rules.proofs.ByNumber.{slot_of, assigned, assign_says}
 
 local_among : (core : CoreData) (m : ℕ) (x : Method) (f : SlotsFit core m x) (s : ℕ) (y : Slot) → slice_get (this_slot m x ∷ map (param_slot m) x.params ++ f.0) s ≡ Some y → is_local y.kind ≡ true → LocalFits core m s y

@@ -1,19 +1,12 @@
 -- What is read of a slot, by regions: an alias on the stack, and that it may be used.
 use Rattle.std.specs.Prelude.{◌≡◌, ◌⊎◌, ℕ, ◌+◌, ◌<◌, ◌≤◌, true, false, Option, Some, None, refl}
 use Rattle.std.proofs.Common.{inl, inr, ap, sym, subst, ◌∙◌, arith}
-use Rattle.pc_heap.specs.Objects.{ObjectMap}
-use Rattle.pc_heap.specs.declared.value.Value.{Value}
-use Rattle.pc_heap.specs.declared.value.Value.TheVariants.{Num, Truth, Text, Prim, At}
-use Rattle.pc_caps.specs.Tables.{plain, unalias, sendable}
-use Rattle.pc_caps.specs.declared.capability.Cap.{Cap}
+use Rattle.pc_heap.specs.{Objects.ObjectMap, declared.value.Value.Value, declared.value.Value.TheVariants.{Num, Truth, Text, Prim, At}}
+use Rattle.pc_caps.specs.{Tables.{plain, unalias, sendable}, declared.capability.Cap.Cap}
 use Rattle.pc_caps.specs.declared.capability.Cap.TheVariants as cap
 use Rattle.pc_caps.specs.declared.capability.Form.TheVariants as form
-use Rattle.pc_lists.proofs.Bools.{false_true}
-use Rattle.pc_regions.proofs.World.{Place, InSlot, OnStack, Opened, Held, Child, World, slot, child, Seen, same, under, Over, over_slot, over_part, FitsIn, Fits, AliasIn, Alias, WorldOk}
-use Rattle.pc_regions.proofs.Fitting.{OpenedTo}
-use Rattle.pc_regions.proofs.OneHolder.{one_actor, context_belongs, over_is_of}
-use Rattle.pc_regions.proofs.StandsOtherwise.{one_level}
-use Rattle.pc_regions.proofs.Taken.{FreeIn, Free}
+use Rattle.pc_base.proofs.Bools.{false_true}
+use Rattle.pc_regions.proofs.{World.{Place, InSlot, OnStack, Opened, Held, Child, World, slot, child, Seen, same, under, Over, over_slot, over_part, FitsIn, Fits, AliasIn, Alias, WorldOk}, Fitting.OpenedTo, OneHolder.{one_actor, context_belongs, over_is_of}, StandsOtherwise.one_level, Taken.{FreeIn, Free}}
 
 -- What may not be sent is of the same depth, so it lives with the same context.
 pub same_context : (w : World) (i base c d : ℕ) (k : Cap) → (c ≡ d) ⊎ (sendable k ≡ true) → sendable k ≡ false → w.context i (base + c) ≡ w.context i (base + d)

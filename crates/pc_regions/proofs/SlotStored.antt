@@ -1,41 +1,18 @@
 -- The frame whose slot got a value goes on, by regions, if the value fits the slot and the old one the stack.
 use Rattle.std.specs.Prelude.{◌≡◌, ◌≢◌, ℕ, suc, ◌+◌, ◌<◌, ◌≤◌, Bool, true, false, ◌&&◌, List, [], ◌∷◌, length, Option, Some, None, nat_eq, nat_lt, slice_get, slice_set, refl}
-use Rattle.std.proofs.Common.{inl, inr, ap, sym, subst, ◌∙◌, arith}
-use Rattle.std.proofs.lemmas.Bool.{ne_eqb, and_right}
-use Rattle.std.proofs.lemmas.Bool.Decides.{eqb_tells}
-use Rattle.std.proofs.lemmas.Option.{same_Some}
+use Rattle.std.proofs.{Common.{inl, inr, ap, sym, subst, ◌∙◌, arith}, lemmas.Bool.{ne_eqb, and_right}, lemmas.Bool.Decides.eqb_tells, lemmas.Option.same_Some}
 use Rattle.pc_heap.specs.declared.value.Value.{Value}
-use Rattle.pc_lists.proofs.Gets.{get_set_same, get_set_other}
-use Rattle.pc_caps.specs.Tables.{unalias}
-use Rattle.pc_caps.specs.Computed.{fits}
-use Rattle.pc_caps.specs.declared.capability.Cap.{Cap}
-use Rattle.pc_core.specs.declared.nodes.Slot.{Slot}
-use Rattle.pc_core.specs.CoreData.{CoreData}
-use Rattle.pc_masks.specs.declared.mask.Mask.{Mask}
+use Rattle.pc_base.proofs.Gets.{get_set_same, get_set_other}
+use Rattle.pc_caps.specs.{Tables.unalias, Computed.fits, declared.capability.Cap.Cap}
+use Rattle.pc_core.specs.{declared.nodes.Slot.Slot, CoreData.CoreData}
+use Rattle.pc_masks.specs.{declared.mask.Mask.Mask, Masks.{IsInMask, with_number}, MaskLaws.with_number_bits}
 use Rattle.pc_ann.specs.declared.annotation.Ann.{Ann}
-use Rattle.pc_masks.specs.Masks.{IsInMask, with_number}
-use Rattle.pc_masks.specs.MaskLaws.{with_number_bits}
-use Rattle.pc_semantics.specs.declared.frames.Frame.{Frame}
+use Rattle.pc_semantics.specs.{declared.frames.Frame.Frame, Configurations.{Around, with_stack}, Parts.{value_or_none, held}, Calls.store}
 use Rattle.pc_semantics.specs.declared.frames.Task.TheVariants as task
-use Rattle.pc_semantics.specs.Configurations.{Around, with_stack}
-use Rattle.pc_semantics.specs.Parts.{value_or_none, held}
-use Rattle.pc_semantics.specs.Calls.{store}
 use Rattle.pc_valid.specs.Words.{Ty}
 use Rattle.pc_rules.proofs.ByNumber.{slot_of}
-use Rattle.pc_types.proofs.Types.{OfSome}
-use Rattle.pc_types.proofs.Tasks.{stores}
-use Rattle.pc_types.proofs.Moves.{Runs}
-use Rattle.pc_regions.proofs.World.{Place, InSlot, OnStack, InField, InMail, World, Fits, FitsSome, AliasSome}
-use Rattle.pc_regions.proofs.StackForms.{Entry, FinishRises, TasksRise}
-use Rattle.pc_regions.proofs.Fitting.{StackFits, OpenedTo, ThisFits, SlotsFit}
-use Rattle.pc_regions.proofs.MoveFits.{elsewhere, Situated, RegionMoveOk}
-use Rattle.pc_regions.proofs.Changes.{Shifts}
-use Rattle.pc_regions.proofs.Climbed.{ClimbLaw}
-use Rattle.pc_types.proofs.Needs.{Needs}
-use Rattle.pc_types.proofs.EvalValue.{not_zero}
-use Rattle.pc_regions.proofs.Shifts.{others_kept, fields_kept, below_kept}
-use Rattle.pc_regions.proofs.Rising.{Pushes, rise, others_both, not_here}
-use Rattle.pc_regions.proofs.CallerKept.{from_under, follows_at}
+use Rattle.pc_types.proofs.{Types.OfSome, Tasks.stores, Moves.Runs, Needs.Needs, EvalValue.not_zero}
+use Rattle.pc_regions.proofs.{World.{Place, InSlot, OnStack, InField, InMail, World, Fits, FitsSome, AliasSome}, StackForms.{Entry, FinishRises, TasksRise}, Fitting.{StackFits, OpenedTo, ThisFits, SlotsFit}, MoveFits.{elsewhere, Situated, RegionMoveOk}, Changes.Shifts, Climbed.ClimbLaw, Shifts.{others_kept, fields_kept, below_kept}, Rising.{Pushes, rise, others_both, not_here}, CallerKept.{from_under, follows_at}}
 
 -- The slot, and the places of the stack from a depth on.
 abbrev pub stored_gone : (i h s n : ℕ) → Place → Bool

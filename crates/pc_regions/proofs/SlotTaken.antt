@@ -1,20 +1,11 @@
 -- What a slot holds comes to the stack.
 use Rattle.std.specs.Prelude.{◌≡◌, ◌⊎◌, ℕ, ◌+◌, ◌<◌, ◌≤◌, true, refl}
 use Rattle.std.proofs.Common.{ap, sym, subst, ◌∙◌, arith}
-use Rattle.pc_heap.specs.Objects.{ObjectMap}
-use Rattle.pc_heap.specs.declared.value.Value.{Value}
-use Rattle.pc_heap.specs.declared.value.Value.TheVariants.{Num, Truth, Text, Prim, At}
-use Rattle.pc_caps.specs.Tables.{unalias, sendable}
-use Rattle.pc_caps.specs.declared.capability.Cap.{Cap}
+use Rattle.pc_heap.specs.{Objects.ObjectMap, declared.value.Value.Value, declared.value.Value.TheVariants.{Num, Truth, Text, Prim, At}}
+use Rattle.pc_caps.specs.{Tables.{unalias, sendable}, declared.capability.Cap.Cap, declared.capability.Form.Form}
 use Rattle.pc_caps.specs.declared.capability.Cap.TheVariants as cap
-use Rattle.pc_caps.specs.declared.capability.Form.{Form}
 use Rattle.pc_caps.specs.declared.capability.Form.TheVariants as form
-use Rattle.pc_regions.proofs.World.{InSlot, OnStack, World, Seen, Fits, WorldOk}
-use Rattle.pc_regions.proofs.Fitting.{OpenedTo}
-use Rattle.pc_regions.proofs.Changes.{Shifts}
-use Rattle.pc_regions.proofs.SlotSeen.{iso_free, trn_free, same_context}
-use Rattle.pc_regions.proofs.ValueKeeps.{one_slot, that_slot}
-use Rattle.pc_regions.proofs.Taken.{Free, Takes, TakeLaw}
+use Rattle.pc_regions.proofs.{World.{InSlot, OnStack, World, Seen, Fits, WorldOk}, Fitting.OpenedTo, Changes.Shifts, SlotSeen.{iso_free, trn_free, same_context}, ValueKeeps.{one_slot, that_slot}, Taken.{Free, Takes, TakeLaw}}
 
 module _ (take : TakeLaw) (w : World) (objects : ObjectMap) (count i base d : ℕ) (ok : WorldOk w objects count) (here : i < count) (top : w.top i ≡ base + d) (opened : OpenedTo w i base d) (h s n c : ℕ) (outer : c ≤ d) (v : Value) where
   pub record TakenUp (g : Form) : Type 0 where

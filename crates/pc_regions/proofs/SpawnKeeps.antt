@@ -1,50 +1,20 @@
 -- The task Spawn, by regions: the arguments settle in the constructor's message, the new actor has its object in a region of its own,
 -- and the address goes up as a `tag`.
-use Rattle.std.specs.Prelude.{◌≡◌, ◌≢◌, ℕ, ◌+◌, ◌<◌, ◌≤◌, true, List, ◌∷◌, length, Option, None, refl}
-use Rattle.std.specs.FinMap.{get, insert}
-use Rattle.std.proofs.Common.{inl, inr, ap, sym, subst, ◌∙◌, arith}
-use Rattle.std.proofs.lemmas.Bool.{lt-ltb, ltb-true}
-use Rattle.pc_heap.specs.Objects.{ObjectMap}
-use Rattle.pc_heap.specs.declared.value.Address.{Address}
-use Rattle.pc_heap.specs.declared.value.Value.{Value}
-use Rattle.pc_heap.specs.declared.value.Value.TheVariants.{At}
+use Rattle.std.specs.{Prelude.{◌≡◌, ◌≢◌, ℕ, ◌+◌, ◌<◌, ◌≤◌, true, List, ◌∷◌, length, Option, None, refl}, FinMap.{get, insert}}
+use Rattle.std.proofs.{Common.{inl, inr, ap, sym, subst, ◌∙◌, arith}, lemmas.Bool.{lt-ltb, ltb-true}}
+use Rattle.pc_heap.specs.{Objects.ObjectMap, declared.value.Address.Address, declared.value.Value.Value, declared.value.Value.TheVariants.At}
 use Rattle.pc_caps.specs.Tables.{unalias, sendable}
-use Rattle.pc_core.specs.declared.declarations.Method.{Method}
-use Rattle.pc_core.specs.declared.declarations.MethodKind.{MethodKind}
+use Rattle.pc_core.specs.{declared.declarations.Method.Method, declared.declarations.MethodKind.MethodKind, CoreData.CoreData}
 use Rattle.pc_core.specs.declared.nodes.NodeKind.TheVariants as nodes
-use Rattle.pc_core.specs.CoreData.{CoreData}
-use Rattle.pc_lists.specs.Lists.{Each}
+use Rattle.pc_base.specs.Lists.{Each}
 use Rattle.pc_masks.specs.declared.mask.Mask.{Mask}
 use Rattle.pc_ann.specs.declared.annotation.Ann.{Ann}
-use Rattle.pc_semantics.specs.declared.frames.Frame.{Frame}
+use Rattle.pc_semantics.specs.{declared.frames.Frame.Frame, Configurations.{own_address, blank_object, Around}, Calls.spawn_task}
 use Rattle.pc_semantics.specs.declared.frames.Task.TheVariants as task
-use Rattle.pc_semantics.specs.Configurations.{own_address, blank_object, Around}
-use Rattle.pc_semantics.specs.Calls.{spawn_task}
 use Rattle.pc_sub.specs.Declarations.{takes_sendable}
 use Rattle.pc_valid.specs.Words.{Ty}
-use Rattle.pc_types.proofs.Types.{OfSome}
-use Rattle.pc_types.proofs.Tasks.{FinishOk, spawns, TasksOk}
-use Rattle.pc_types.proofs.Moves.{Runs}
-use Rattle.pc_regions.proofs.World.{Place, InSlot, OnStack, InField, InMail, World, FitsSome, AliasSome}
-use Rattle.pc_regions.proofs.StackForms.{Entry, FinishRises, TasksRise}
-use Rattle.pc_regions.proofs.Fitting.{MessageFits}
-use Rattle.pc_regions.proofs.MoveFits.{among, Others, Turned, Situated, RegionMoveOk}
-use Rattle.pc_regions.proofs.Settled.{SettleLaw}
-use Rattle.pc_regions.proofs.Climbed.{ClimbLaw}
-use Rattle.pc_types.proofs.Needs.{Needs}
-use Rattle.pc_types.proofs.Made.{own_free}
-use Rattle.pc_types.proofs.Popped.{popped_is}
-use Rattle.pc_types.proofs.SpawnTask.{spawns_is, one_more, Spawning, spawning, spawn_move, born_typed}
-use Rattle.pc_regions.proofs.Schedules.{KeepsRegions}
-use Rattle.pc_regions.proofs.FirstFrame.{message_fits}
-use Rattle.pc_regions.proofs.ArgumentsSettle.{sent_form, Passed, pass_all}
-use Rattle.pc_regions.proofs.CallerKept.{pushes_of, children_on, live_left, follows_at, fields_on, others_on, rests_on}
-use Rattle.pc_regions.proofs.CallBegins.{finish_at}
-use Rattle.pc_regions.proofs.Rising.{Pushes, rise, others_both}
-use Rattle.pc_regions.proofs.WorldGrows.{Grows}
-use Rattle.pc_regions.proofs.GrownFits.{others_grown, fields_grown, rests_grown, arguments_grown}
-use Rattle.pc_regions.proofs.NewActor.{born, born_grows, born_world, new_top, new_sent}
-use Rattle.pc_regions.proofs.Arguments.{ChildrenStand, same_params}
+use Rattle.pc_types.proofs.{Types.OfSome, Tasks.{FinishOk, spawns, TasksOk}, Moves.Runs, Needs.Needs, Made.own_free, Popped.popped_is, SpawnTask.{spawns_is, one_more, Spawning, spawning, spawn_move, born_typed}}
+use Rattle.pc_regions.proofs.{World.{Place, InSlot, OnStack, InField, InMail, World, FitsSome, AliasSome}, StackForms.{Entry, FinishRises, TasksRise}, Fitting.MessageFits, MoveFits.{among, Others, Turned, Situated, RegionMoveOk}, Settled.SettleLaw, Climbed.ClimbLaw, Schedules.KeepsRegions, FirstFrame.message_fits, ArgumentsSettle.{sent_form, Passed, pass_all}, CallerKept.{pushes_of, children_on, live_left, follows_at, fields_on, others_on, rests_on}, CallBegins.finish_at, Rising.{Pushes, rise, others_both}, WorldGrows.Grows, GrownFits.{others_grown, fields_grown, rests_grown, arguments_grown}, NewActor.{born, born_grows, born_world, new_top, new_sent}, Arguments.{ChildrenStand, same_params}}
 
 -- ---- one actor more
 

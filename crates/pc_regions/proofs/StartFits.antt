@@ -1,34 +1,15 @@
 -- The start of a program has regions: the stream's and Main's are open, and the environment is frozen.
-use Rattle.std.specs.Prelude.{◌≡◌, ◌⊎◌, ℕ, zero, suc, ◌<◌, ◌≤◌, Bool, true, false, List, [], ◌∷◌, Option, Some, None, nat_eq, cond, slice_get, refl}
-use Rattle.std.proofs.Common.{inl, inr, ap, sym, subst, ◌∙◌, arith}
-use Rattle.std.proofs.lemmas.Bool.{eqb-true}
-use Rattle.std.proofs.lemmas.Option.{same_Some, none-some}
-use Rattle.std.specs.FinMap.{empty, get, get-empty}
-use Rattle.pc_heap.specs.Objects.{address_cmp, Object}
-use Rattle.pc_heap.specs.declared.value.Address.{Address}
-use Rattle.pc_heap.specs.declared.value.Value.{Value}
-use Rattle.pc_heap.specs.declared.value.Value.TheVariants.{At}
-use Rattle.pc_caps.specs.Tables.{unalias}
-use Rattle.pc_caps.specs.declared.capability.Cap.{Cap}
+use Rattle.std.specs.{Prelude.{◌≡◌, ◌⊎◌, ℕ, zero, suc, ◌<◌, ◌≤◌, Bool, true, false, List, [], ◌∷◌, Option, Some, None, nat_eq, cond, slice_get, refl}, FinMap.{empty, get, get-empty}}
+use Rattle.std.proofs.{Common.{inl, inr, ap, sym, subst, ◌∙◌, arith}, lemmas.Bool.eqb-true, lemmas.Option.{same_Some, none-some}}
+use Rattle.pc_heap.specs.{Objects.{address_cmp, Object}, declared.value.Address.Address, declared.value.Value.Value, declared.value.Value.TheVariants.At}
+use Rattle.pc_caps.specs.{Tables.unalias, declared.capability.Cap.Cap}
 use Rattle.pc_caps.specs.declared.capability.Cap.TheVariants as cap
 use Rattle.pc_caps.specs.declared.capability.Form.TheVariants as form
-use Rattle.pc_core.specs.declared.declarations.EntityDef.{EntityDef}
-use Rattle.pc_core.specs.declared.declarations.FieldInfo.{FieldInfo}
-use Rattle.pc_core.specs.declared.declarations.Method.{Method}
-use Rattle.pc_core.specs.declared.declarations.ParamInfo.{ParamInfo}
-use Rattle.pc_core.specs.CoreData.{CoreData}
-use Rattle.pc_core.specs.Entities.{out_field}
-use Rattle.pc_core.specs.Formed.{Formed}
+use Rattle.pc_core.specs.{declared.declarations.EntityDef.EntityDef, declared.declarations.FieldInfo.FieldInfo, declared.declarations.Method.Method, declared.declarations.ParamInfo.ParamInfo, CoreData.CoreData, Entities.out_field, Formed.Formed}
 use Rattle.pc_ann.specs.declared.annotation.Ann.{Ann}
-use Rattle.pc_semantics.specs.declared.actors.Actor.{Actor}
-use Rattle.pc_semantics.specs.Configurations.{own_address, blank_object, environment, environment_address, start_of, start}
-use Rattle.pc_semantics.specs.Parts.{number_of_fields}
-use Rattle.pc_regions.proofs.World.{Place, InField, InMail, Standing, Unused, Froze, Opened, Held, Child, World, ice, Fits, WorldOk}
-use Rattle.pc_regions.proofs.Fitting.{FieldsFit, MessageFits, ActorFits, HasRegions}
-use Rattle.pc_types.proofs.Heaps.{get_here, put_or_before, put_stays}
-use Rattle.pc_types.proofs.Made.{no_value}
-use Rattle.pc_types.proofs.Starts.{with_stream, with_environment, with_main, env_is, main_found}
-use Rattle.pc_regions.proofs.ValueKeeps.{tag_fits}
+use Rattle.pc_semantics.specs.{declared.actors.Actor.Actor, Configurations.{own_address, blank_object, environment, environment_address, start_of, start}, Parts.number_of_fields}
+use Rattle.pc_regions.proofs.{World.{Place, InField, InMail, Standing, Unused, Froze, Opened, Held, Child, World, ice, Fits, WorldOk}, Fitting.{FieldsFit, MessageFits, ActorFits, HasRegions}, ValueKeeps.tag_fits}
+use Rattle.pc_types.proofs.{Heaps.{get_here, put_or_before, put_stays}, Made.no_value, Starts.{with_stream, with_environment, with_main, env_is, main_found}}
 
 -- ---- the world of the start
 

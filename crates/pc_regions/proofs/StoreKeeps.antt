@@ -1,63 +1,22 @@
 -- The task Store, by regions: a definition or an assignment of a slot, which holds no value before or an old one, which is pushed.
 use Rattle.std.specs.Prelude.{◌≡◌, ◌⊎◌, ℕ, suc, ◌+◌, ◌<◌, ◌≤◌, true, false, ◌||◌, List, ◌∷◌, length, Option, Some, None, slice_get, refl}
-use Rattle.std.proofs.Common.{inl, inr, ap, sym, subst, ◌∙◌, arith}
-use Rattle.std.proofs.lemmas.Bool.{and_parts, or_from}
-use Rattle.std.proofs.lemmas.Option.{same_Some, none-some}
+use Rattle.std.proofs.{Common.{inl, inr, ap, sym, subst, ◌∙◌, arith}, lemmas.Bool.{and_parts, or_from}, lemmas.Option.{same_Some, none-some}}
 use Rattle.pc_heap.specs.declared.value.Value.{Value}
-use Rattle.pc_caps.specs.Computed.{is_below, fits}
-use Rattle.pc_caps.specs.Tables.{unalias, sendable}
-use Rattle.pc_caps.specs.declared.capability.Cap.{Cap}
-use Rattle.pc_caps.specs.declared.capability.Form.{Form}
-use Rattle.pc_core.specs.declared.nodes.Slot.{Slot}
-use Rattle.pc_core.specs.CoreData.{CoreData}
-use Rattle.pc_core.specs.Nodes.{NamesSlot}
-use Rattle.pc_masks.specs.declared.mask.Mask.{Mask}
-use Rattle.pc_ann.specs.declared.annotation.Ann.{Ann}
-use Rattle.pc_masks.specs.Masks.{IsInMask, with_number}
-use Rattle.pc_masks.specs.MaskLaws.{with_number_bits}
-use Rattle.pc_semantics.specs.declared.frames.Frame.{Frame}
+use Rattle.pc_caps.specs.{Computed.{is_below, fits}, Tables.{unalias, sendable}, declared.capability.Cap.Cap, declared.capability.Form.Form}
+use Rattle.pc_core.specs.{declared.nodes.Slot.Slot, CoreData.CoreData, Nodes.NamesSlot, declared.nodes.NodeKind.NodeKind}
+use Rattle.pc_masks.specs.{declared.mask.Mask.Mask, Masks.{IsInMask, with_number}, MaskLaws.with_number_bits}
+use Rattle.pc_ann.specs.{declared.annotation.Ann.Ann, declared.annotation.Rule.Rule}
+use Rattle.pc_semantics.specs.{declared.frames.Frame.Frame, Configurations.{Around, with_stack}, Parts.{value_or_none, with_top, held}, Calls.{store, store_task}}
 use Rattle.pc_semantics.specs.declared.frames.Task.TheVariants as task
-use Rattle.pc_semantics.specs.Configurations.{Around, with_stack}
-use Rattle.pc_semantics.specs.Parts.{value_or_none, with_top, held}
-use Rattle.pc_semantics.specs.Calls.{store, store_task}
 use Rattle.pc_sub.specs.Computed.{is_sub}
-use Rattle.pc_rules.specs.Parts.{type_of}
+use Rattle.pc_rules.specs.{Parts.type_of, Rules.said_by}
 use Rattle.pc_valid.specs.Words.{Ty, Masks, before}
-use Rattle.pc_core.specs.declared.nodes.NodeKind.{NodeKind}
 use Rattle.pc_core.specs.declared.nodes.NodeKind.TheVariants as nodes
-use Rattle.pc_ann.specs.declared.annotation.Rule.{Rule}
 use Rattle.pc_ann.specs.declared.annotation.Rule.TheVariants as rule
-use Rattle.pc_rules.specs.Rules.{said_by}
-use Rattle.pc_rules.proofs.ByNumber.{slot_of, says}
-use Rattle.pc_lists.proofs.Bools.{false_true}
-use Rattle.pc_rules.proofs.OneRule.{define_rule}
-use Rattle.pc_types.proofs.Types.{OfSome}
-use Rattle.pc_types.proofs.Tasks.{FinishOk, stores, TasksOk}
-use Rattle.pc_types.proofs.Moves.{Runs}
-use Rattle.pc_regions.proofs.World.{Place, InSlot, OnStack, InField, InMail, World, Fits, FitsSome, AliasSome, WorldOk}
-use Rattle.pc_regions.proofs.StackForms.{Entry, FinishRises, TasksRise, piled, LiveShallow}
-use Rattle.pc_regions.proofs.Fitting.{StackFits}
-use Rattle.pc_regions.proofs.MoveFits.{Situated, RegionMoveOk}
-use Rattle.pc_regions.proofs.Changes.{Shifts}
-use Rattle.pc_regions.proofs.Settled.{Near, SettleLaw}
-use Rattle.pc_regions.proofs.Climbed.{ClimbLaw}
-use Rattle.pc_types.proofs.Needs.{Needs}
-use Rattle.pc_regions.proofs.ArgumentsSettle.{near_home, near_sent, sent_form, the_place, one_later, other_place, PassedOne, pass_near}
-use Rattle.pc_regions.proofs.ValueKeeps.{no_alias, one_slot}
-use Rattle.pc_regions.proofs.Shifts.{shifts_both, lower_shift, wider}
-use Rattle.pc_regions.proofs.SlotTaken.{slot_taken}
-use Rattle.pc_regions.proofs.SlotStored.{stored_gone, stored_goes}
-use Rattle.pc_regions.proofs.ControlKeeps.{same_below}
-use Rattle.pc_regions.proofs.FieldPut.{other_depth}
-use Rattle.pc_regions.proofs.Taken.{TakeLaw}
-use Rattle.pc_types.proofs.Needed.{not_first}
-use Rattle.pc_types.proofs.Finish.{one_top, rule_is}
-use Rattle.pc_types.proofs.StoreTask.{StoreRule, old_ok, room, define_is, assign_is}
-use Rattle.pc_regions.proofs.CallBegins.{finish_at}
-use Rattle.pc_regions.proofs.Schedules.{KeepsRegions}
-use Rattle.pc_regions.proofs.Waiting.{slot_depth}
-use Rattle.pc_regions.proofs.SlotDepth.{define_depth, assign_near}
-use Rattle.pc_types.proofs.Notes.{names_fit}
+use Rattle.pc_rules.proofs.{ByNumber.{slot_of, says}, OneRule.define_rule}
+use Rattle.pc_base.proofs.Bools.{false_true}
+use Rattle.pc_types.proofs.{Types.OfSome, Tasks.{FinishOk, stores, TasksOk}, Moves.Runs, Needs.Needs, Needed.not_first, Finish.{one_top, rule_is}, StoreTask.{StoreRule, old_ok, room, define_is, assign_is}, Notes.names_fit}
+use Rattle.pc_regions.proofs.{World.{Place, InSlot, OnStack, InField, InMail, World, Fits, FitsSome, AliasSome, WorldOk}, StackForms.{Entry, FinishRises, TasksRise, piled, LiveShallow}, Fitting.StackFits, MoveFits.{Situated, RegionMoveOk}, Changes.Shifts, Settled.{Near, SettleLaw}, Climbed.ClimbLaw, ArgumentsSettle.{near_home, near_sent, sent_form, the_place, one_later, other_place, PassedOne, pass_near}, ValueKeeps.{no_alias, one_slot}, Shifts.{shifts_both, lower_shift, wider}, SlotTaken.slot_taken, SlotStored.{stored_gone, stored_goes}, ControlKeeps.same_below, FieldPut.other_depth, Taken.TakeLaw, CallBegins.finish_at, Schedules.KeepsRegions, Waiting.slot_depth, SlotDepth.{define_depth, assign_near}}
 
 -- From the stack to the slot: the place lives with the same region, or the form may be sent.
 near_stored : (w : World) (i h s n c d base : ℕ) (f : Form) (k : Cap) → (c ≡ d) ⊎ (sendable k ≡ true) → Near w (OnStack i h n (base + d)) f (unalias k) (InSlot i h s (base + c))

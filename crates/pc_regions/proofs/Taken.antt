@@ -1,13 +1,10 @@
 -- A value that an `iso` or `trn` place holds is taken to a stack: its region is held there, or is a child there, and
 -- everything else is unchanged.
 use Rattle.std.specs.Prelude.{◌≡◌, ◌≢◌, ℕ, ◌<◌, ◌≤◌, Bool, true}
-use Rattle.pc_heap.specs.Objects.{ObjectMap}
-use Rattle.pc_heap.specs.declared.value.Value.{Value}
-use Rattle.pc_heap.specs.declared.value.Value.TheVariants.{At}
+use Rattle.pc_heap.specs.{Objects.ObjectMap, declared.value.Value.Value, declared.value.Value.TheVariants.At}
 use Rattle.pc_caps.specs.declared.capability.Form.{Form}
 use Rattle.pc_caps.specs.declared.capability.Form.TheVariants as form
-use Rattle.pc_regions.proofs.World.{Place, OnStack, Opened, World, home, Fits, Over, Belongs, WorldOk}
-use Rattle.pc_regions.proofs.Changes.{Shifts}
+use Rattle.pc_regions.proofs.{World.{Place, OnStack, Opened, World, home, Fits, Over, Belongs, WorldOk}, Changes.Shifts}
 
 -- The value is not an object of region q.
 abbrev pub Outside : World → ℕ → Value → Type 0

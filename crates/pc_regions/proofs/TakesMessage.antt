@@ -1,48 +1,20 @@
 -- An idle actor takes its first message, in regions: what the message held is held by the slots of the frame that begins.
 use Rattle.std.specs.Prelude.{◌≡◌, ◌≢◌, ◌⊎◌, ℕ, zero, suc, ◌<◌, ◌≤◌, Bool, true, false, ◌&&◌, cond, List, [], ◌∷◌, length, Option, Some, None, nat_eq, slice_get, refl}
-use Rattle.std.proofs.Common.{inl, inr, ap, sym, subst, ◌∙◌, arith, length-set}
-use Rattle.std.proofs.lemmas.Bool.{eq-eqb, ne_eqb, cases_Bool, and_from, and_left, and_right, cond-true, cond-false}
-use Rattle.std.proofs.lemmas.Option.{same_Some}
-use Rattle.pc_heap.specs.Objects.{ObjectMap}
-use Rattle.pc_heap.specs.declared.value.Address.{Address}
-use Rattle.pc_heap.specs.declared.value.Value.{Value}
-use Rattle.pc_heap.specs.declared.value.Value.TheVariants.{Num, Truth, Text, Prim, At}
-use Rattle.pc_lists.proofs.Gets.{get_below}
-use Rattle.pc_caps.specs.Tables.{unalias, sendable}
-use Rattle.pc_caps.specs.declared.capability.Cap.{Cap}
+use Rattle.std.proofs.{Common.{inl, inr, ap, sym, subst, ◌∙◌, arith, length-set}, lemmas.Bool.{eq-eqb, ne_eqb, cases_Bool, and_from, and_left, and_right, cond-true, cond-false}, lemmas.Option.same_Some}
+use Rattle.pc_heap.specs.{Objects.ObjectMap, declared.value.Address.Address, declared.value.Value.Value, declared.value.Value.TheVariants.{Num, Truth, Text, Prim, At}}
+use Rattle.pc_base.proofs.{Gets.get_below, Bools.false_true}
+use Rattle.pc_caps.specs.{Tables.{unalias, sendable}, declared.capability.Cap.Cap, declared.capability.Form.Form}
 use Rattle.pc_caps.specs.declared.capability.Cap.TheVariants as cap
-use Rattle.pc_caps.specs.declared.capability.Form.{Form}
 use Rattle.pc_caps.specs.declared.capability.Form.TheVariants as form
-use Rattle.pc_core.specs.declared.declarations.Method.{Method}
-use Rattle.pc_core.specs.declared.declarations.MethodKind.{MethodKind}
+use Rattle.pc_core.specs.{declared.declarations.Method.Method, declared.declarations.MethodKind.MethodKind, declared.declarations.ParamInfo.ParamInfo, CoreData.CoreData, Entities.print_method, Methods.ResultFits}
 use Rattle.pc_core.specs.declared.declarations.MethodKind.TheVariants as method
-use Rattle.pc_core.specs.declared.declarations.ParamInfo.{ParamInfo}
-use Rattle.pc_core.specs.CoreData.{CoreData}
-use Rattle.pc_lists.specs.Lists.{Each}
-use Rattle.pc_core.specs.Entities.{print_method}
-use Rattle.pc_core.specs.Methods.{ResultFits}
+use Rattle.pc_base.specs.Lists.{Each}
 use Rattle.pc_ann.specs.declared.annotation.Ann.{Ann}
-use Rattle.pc_semantics.specs.declared.actors.Actor.{Actor}
-use Rattle.pc_semantics.specs.declared.frames.Frame.{Frame}
-use Rattle.pc_semantics.specs.declared.mailbox.Message.{Message}
-use Rattle.pc_semantics.specs.Configurations.{Configuration, with_actor, with_frames, own_address, first_frame}
-use Rattle.pc_semantics.specs.Step.{printed_text}
-use Rattle.pc_semantics.specs.Parts.{begin_method}
+use Rattle.pc_semantics.specs.{declared.actors.Actor.Actor, declared.frames.Frame.Frame, declared.mailbox.Message.Message, Configurations.{Configuration, with_actor, with_frames, own_address, first_frame}, Step.printed_text, Parts.begin_method}
 use Rattle.pc_valid.specs.Words.{Ty}
-use Rattle.pc_lists.proofs.Bools.{false_true}
 use Rattle.pc_sub.specs.Declarations.{takes_sendable}
-use Rattle.pc_types.proofs.Types.{ArgumentsOk}
-use Rattle.pc_types.proofs.Typed.{MessageOk, MailOk, FirstMailOk, WellTyped}
-use Rattle.pc_regions.proofs.World.{Place, InSlot, OnStack, InField, InMail, Standing, Unused, Froze, Opened, Loose, Held, Child, World, home, steady, Fits, Alias, AliasSome, Over, WorldOk}
-use Rattle.pc_regions.proofs.StackForms.{Entry}
-use Rattle.pc_regions.proofs.Fitting.{TopAlias, FramesFit, MailFits, ActorFits, InRegions, LeadsOn}
-use Rattle.pc_types.proofs.Needs.{Needs}
-use Rattle.pc_types.proofs.Values.{own_no_trait}
-use Rattle.pc_types.proofs.Growth.{object_of}
-use Rattle.pc_regions.proofs.Waiting.{holds_kept, wait_kept}
-use Rattle.pc_regions.proofs.MoveMade.{set_cases}
-use Rattle.pc_regions.proofs.FirstFrame.{ArgumentsAt, begins_active, begins_body}
-use Rattle.pc_regions.proofs.Schedules.{TakesRegions}
+use Rattle.pc_types.proofs.{Types.ArgumentsOk, Typed.{MessageOk, MailOk, FirstMailOk, WellTyped}, Needs.Needs, Values.own_no_trait, Growth.object_of}
+use Rattle.pc_regions.proofs.{World.{Place, InSlot, OnStack, InField, InMail, Standing, Unused, Froze, Opened, Loose, Held, Child, World, home, steady, Fits, Alias, AliasSome, Over, WorldOk}, StackForms.Entry, Fitting.{TopAlias, FramesFit, MailFits, ActorFits, InRegions, LeadsOn}, Waiting.{holds_kept, wait_kept}, MoveMade.set_cases, FirstFrame.{ArgumentsAt, begins_active, begins_body}, Schedules.TakesRegions}
 use Rattle.pc_regions.proofs.SameRegions as renewed
 
 -- ---- the world in which a message is taken

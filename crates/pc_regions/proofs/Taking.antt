@@ -1,23 +1,11 @@
 -- What an `iso` or `trn` place holds is taken to a stack.
-use Rattle.std.specs.Prelude.{◌≡◌, ℕ, ◌<◌, ◌≤◌, Bool, true, Option, Some, refl}
-use Rattle.std.specs.FinMap.{get}
-use Rattle.std.proofs.Common.{inl, inr, ap, sym, subst, ◌∙◌}
-use Rattle.std.proofs.lemmas.Bool.{cases_lt}
-use Rattle.std.proofs.lemmas.Option.{none-some}
-use Rattle.pc_heap.specs.Objects.{ObjectMap, Object}
-use Rattle.pc_heap.specs.declared.value.Address.{Address}
-use Rattle.pc_heap.specs.declared.value.Value.{Value}
-use Rattle.pc_heap.specs.declared.value.Value.TheVariants.{Num, Truth, Text, Prim, At}
+use Rattle.std.specs.{Prelude.{◌≡◌, ℕ, ◌<◌, ◌≤◌, Bool, true, Option, Some, refl}, FinMap.get}
+use Rattle.std.proofs.{Common.{inl, inr, ap, sym, subst, ◌∙◌}, lemmas.Bool.cases_lt, lemmas.Option.none-some}
+use Rattle.pc_heap.specs.{Objects.{ObjectMap, Object}, declared.value.Address.Address, declared.value.Value.Value, declared.value.Value.TheVariants.{Num, Truth, Text, Prim, At}}
 use Rattle.pc_caps.specs.declared.capability.Form.{Form}
 use Rattle.pc_caps.specs.declared.capability.Form.TheVariants as form
-use Rattle.pc_regions.proofs.World.{Place, OnStack, InField, Standing, Unused, Opened, Held, Child, World, home, Seen, under, FitsIn, Fits, WorldOk}
-use Rattle.pc_regions.proofs.Changes.{standing}
-use Rattle.pc_regions.proofs.OneHolder.{not_frozen}
-use Rattle.pc_regions.proofs.StandsOtherwise.{stand_here, stand_other}
+use Rattle.pc_regions.proofs.{World.{Place, OnStack, InField, Standing, Unused, Opened, Held, Child, World, home, Seen, under, FitsIn, Fits, WorldOk}, Changes.standing, OneHolder.not_frozen, StandsOtherwise.{stand_here, stand_other}, Shifts.shifts_none, Settling.{OwnedBy, no_place, held_no_child}, Taken.{Taken, FreeIn, Free, Takes, TakeLaw}}
 use Rattle.pc_regions.proofs.StandsOtherwise as stands
-use Rattle.pc_regions.proofs.Shifts.{shifts_none}
-use Rattle.pc_regions.proofs.Settling.{OwnedBy, no_place, held_no_child}
-use Rattle.pc_regions.proofs.Taken.{Taken, FreeIn, Free, Takes, TakeLaw}
 
 module _
     (w : World) (objects : ObjectMap) (count : ℕ) (ok : WorldOk w objects count) (i : ℕ) (here : i < count) (b : ℕ)

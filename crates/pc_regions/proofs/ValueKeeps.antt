@@ -1,59 +1,22 @@
 -- Eval at literals, `this` and slots, in regions.
 use Rattle.std.specs.Prelude.{◌≡◌, ◌≢◌, ◌⊎◌, ℕ, ◌+◌, ◌<◌, ◌≤◌, Bool, true, false, ◌&&◌, cond, List, [], ◌∷◌, length, Option, Some, None, nat_eq, slice_get, slice_set, refl}
-use Rattle.std.proofs.Common.{inl, inr, ap, sym, subst, ◌∙◌, arith}
-use Rattle.std.proofs.lemmas.Bool.{eqb-true, eq-eqb, ne_eqb, and_parts, or_cases, and_right}
-use Rattle.std.proofs.lemmas.Option.{same_Some, none-some}
-use Rattle.pc_heap.specs.declared.value.Value.{Value}
-use Rattle.pc_heap.specs.declared.value.Value.TheVariants.{Num, Truth, Text, Prim, At}
-use Rattle.pc_lists.proofs.Gets.{get_set}
-use Rattle.pc_caps.specs.Tables.{plain, unalias, sendable}
-use Rattle.pc_caps.specs.declared.capability.Cap.{Cap}
+use Rattle.std.proofs.{Common.{inl, inr, ap, sym, subst, ◌∙◌, arith}, lemmas.Bool.{eqb-true, eq-eqb, ne_eqb, and_parts, or_cases, and_right}, lemmas.Option.{same_Some, none-some}}
+use Rattle.pc_heap.specs.{declared.value.Value.Value, declared.value.Value.TheVariants.{Num, Truth, Text, Prim, At}}
+use Rattle.pc_base.proofs.{Gets.get_set, Options.bind_some, Bools.false_true}
+use Rattle.pc_caps.specs.{Tables.{plain, unalias, sendable}, declared.capability.Cap.Cap, declared.capability.Form.Form}
 use Rattle.pc_caps.specs.declared.capability.Cap.TheVariants as cap
-use Rattle.pc_caps.specs.declared.capability.Form.{Form}
 use Rattle.pc_caps.specs.declared.capability.Form.TheVariants as form
-use Rattle.pc_core.specs.declared.declarations.Method.{Method}
-use Rattle.pc_core.specs.declared.nodes.Node.{Node}
+use Rattle.pc_core.specs.{declared.declarations.Method.Method, declared.nodes.Node.Node, declared.nodes.Slot.Slot, CoreData.CoreData, Entities.this_slot}
 use Rattle.pc_core.specs.declared.nodes.NodeKind.TheVariants as nodes
-use Rattle.pc_core.specs.declared.nodes.Slot.{Slot}
-use Rattle.pc_core.specs.CoreData.{CoreData}
-use Rattle.pc_lists.proofs.Options.{bind_some}
-use Rattle.pc_core.specs.Entities.{this_slot}
-use Rattle.pc_masks.specs.declared.mask.Mask.{Mask}
-use Rattle.pc_ann.specs.declared.annotation.Note.{Note}
-use Rattle.pc_ann.specs.declared.annotation.Ann.{Ann}
-use Rattle.pc_masks.specs.Masks.{IsInMask, without_number}
-use Rattle.pc_masks.specs.MaskLaws.{without_number_bits}
-use Rattle.pc_semantics.specs.declared.frames.Frame.{Frame}
+use Rattle.pc_masks.specs.{declared.mask.Mask.Mask, Masks.{IsInMask, without_number}, MaskLaws.without_number_bits}
+use Rattle.pc_ann.specs.{declared.annotation.Note.Note, declared.annotation.Ann.Ann}
+use Rattle.pc_semantics.specs.{declared.frames.Frame.Frame, Configurations.{Around, Goes, pushed, with_slot}, Parts.{push_slot, take_slot}}
 use Rattle.pc_semantics.specs.declared.frames.Task.TheVariants as task
-use Rattle.pc_semantics.specs.Configurations.{Around, Goes, pushed, with_slot}
-use Rattle.pc_semantics.specs.Parts.{push_slot, take_slot}
-use Rattle.pc_rules.specs.Parts.{reachable, full}
+use Rattle.pc_rules.specs.{Parts.{reachable, full}, Values.this_form}
 use Rattle.pc_valid.specs.Words.{Ty, before}
 use Rattle.pc_rules.proofs.ByNumber.{slot_of}
-use Rattle.pc_rules.specs.Values.{this_form}
-use Rattle.pc_lists.proofs.Bools.{false_true}
-use Rattle.pc_types.proofs.Types.{OfType, held_in}
-use Rattle.pc_types.proofs.Tasks.{Within, Follows, EvalOk, TasksOk}
-use Rattle.pc_types.proofs.Moves.{Runs}
-use Rattle.pc_regions.proofs.World.{Place, InSlot, OnStack, InField, InMail, Opened, World, Seen, Fits, Alias, AliasIn, FitsSome}
-use Rattle.pc_regions.proofs.StackForms.{Entry, Rises, entry_of, EvalRises, TasksRise}
-use Rattle.pc_regions.proofs.Fitting.{OpenedTo, ThisFits, SlotsFit, StackFits}
-use Rattle.pc_regions.proofs.MoveFits.{elsewhere, RegionMoveOk, Situated}
-use Rattle.pc_regions.proofs.Changes.{Shifts}
-use Rattle.pc_regions.proofs.Climbed.{ClimbLaw}
-use Rattle.pc_types.proofs.Needs.{Needs}
-use Rattle.pc_types.proofs.Needed.{first_own, not_first}
-use Rattle.pc_types.proofs.Basic.{of_lower}
-use Rattle.pc_types.proofs.EvalValue.{not_zero, seen_this, slot_ok}
-use Rattle.pc_types.proofs.Places.{taken_lower}
-use Rattle.pc_types.proofs.Inverse.{Says, Used, ThisRule}
-use Rattle.pc_regions.proofs.Shifts.{others_kept, fields_kept, below_kept, shifts_none}
-use Rattle.pc_regions.proofs.Rising.{Pushes, rise, others_both, not_here, lower_frame}
-use Rattle.pc_regions.proofs.ChildForms.{at_depth}
-use Rattle.pc_regions.proofs.SlotSeen.{slot_read, iso_free, trn_free}
-use Rattle.pc_regions.proofs.Waiting.{slot_depth}
-use Rattle.pc_regions.proofs.Taken.{Free, Takes, TakeLaw}
-use Rattle.pc_types.proofs.Notes.{names_fit}
+use Rattle.pc_types.proofs.{Types.{OfType, held_in}, Tasks.{Within, Follows, EvalOk, TasksOk}, Moves.Runs, Needs.Needs, Needed.{first_own, not_first}, Basic.of_lower, EvalValue.{not_zero, seen_this, slot_ok}, Places.taken_lower, Inverse.{Says, Used, ThisRule}, Notes.names_fit}
+use Rattle.pc_regions.proofs.{World.{Place, InSlot, OnStack, InField, InMail, Opened, World, Seen, Fits, Alias, AliasIn, FitsSome}, StackForms.{Entry, Rises, entry_of, EvalRises, TasksRise}, Fitting.{OpenedTo, ThisFits, SlotsFit, StackFits}, MoveFits.{elsewhere, RegionMoveOk, Situated}, Changes.Shifts, Climbed.ClimbLaw, Shifts.{others_kept, fields_kept, below_kept, shifts_none}, Rising.{Pushes, rise, others_both, not_here, lower_frame}, ChildForms.at_depth, SlotSeen.{slot_read, iso_free, trn_free}, Waiting.slot_depth, Taken.{Free, Takes, TakeLaw}}
 
 -- ---- forms that require nothing
 

@@ -2,26 +2,18 @@
 -- stay so: nothing of such a frame is at a higher level than the node that waits, and the frame above begins at none
 -- below.
 use Rattle.std.specs.Prelude.{◌≡◌, ◌⊎◌, ◌≤◌, ℕ, suc, ◌+◌, ◌<◌, List, [], ◌∷◌, length, Option, Some, None, slice_get}
-use Rattle.std.proofs.Common.{inl, inr, ap, subst, arith}
-use Rattle.std.proofs.lemmas.Option.{same_Some}
+use Rattle.std.proofs.{Common.{inl, inr, ap, subst, arith}, lemmas.Option.same_Some}
 use Rattle.pc_heap.specs.declared.value.Value.{Value}
-use Rattle.pc_caps.specs.declared.capability.Cap.{Cap}
-use Rattle.pc_caps.specs.declared.capability.Form.{Form}
-use Rattle.pc_core.specs.declared.declarations.Method.{Method}
-use Rattle.pc_core.specs.declared.nodes.Slot.{Slot}
-use Rattle.pc_core.specs.CoreData.{CoreData}
-use Rattle.pc_lists.proofs.Options.{bind_some}
-use Rattle.pc_masks.specs.declared.mask.Mask.{Mask}
+use Rattle.pc_caps.specs.{declared.capability.Cap.Cap, declared.capability.Form.Form}
+use Rattle.pc_core.specs.{declared.declarations.Method.Method, declared.nodes.Slot.Slot, CoreData.CoreData, declared.declarations.MethodKind.MethodKind}
+use Rattle.pc_base.proofs.Options.{bind_some}
+use Rattle.pc_masks.specs.{declared.mask.Mask.Mask, Masks.IsInMask}
 use Rattle.pc_ann.specs.declared.annotation.Ann.{Ann}
-use Rattle.pc_masks.specs.Masks.{IsInMask}
 use Rattle.pc_semantics.specs.declared.frames.Frame.{Frame}
 use Rattle.pc_valid.specs.Words.{Ty}
 use Rattle.pc_rules.proofs.ByNumber.{slot_of}
-use Rattle.pc_core.specs.declared.declarations.MethodKind.{MethodKind}
 use Rattle.pc_core.specs.declared.declarations.MethodKind.TheVariants as method
-use Rattle.pc_regions.proofs.World.{Over, World, Opened, InSlot, OnStack, Fits, FitsSome}
-use Rattle.pc_regions.proofs.StackForms.{Entry, Ascent, Joins, Decides, Recovers, Shallow, SlotsShallow, ascend, top_of}
-use Rattle.pc_regions.proofs.Fitting.{StackFits, ThisFits, SlotsFit, Entered, Awaits, WaitFits, Holds}
+use Rattle.pc_regions.proofs.{World.{Over, World, Opened, InSlot, OnStack, Fits, FitsSome}, StackForms.{Entry, Ascent, Joins, Decides, Recovers, Shallow, SlotsShallow, ascend, top_of}, Fitting.{StackFits, ThisFits, SlotsFit, Entered, Awaits, WaitFits, Holds}}
 
 -- A value that goes up becomes no deeper.
 ascends_down : (a : Ascent) (e : Entry) → (ascend a e).depth ≤ e.depth

@@ -1,27 +1,15 @@
 -- What is found by an index is what the lists define.
 use Rattle.pc_members.specs.MemberLists as memberlists
-use Rattle.std.proofs.Common.{◌≡◌, ℕ, suc, List, [], ◌∷◌, ◌++◌, Bool, true, false, ◌||◌, cond, map, length, take, drop, Option, Some, None, is_some, refl, sym, ap, ◌∙◌, arith, if◌then◌else◌}
-use Rattle.std.specs.Prelude.{nat_eq}
-use Rattle.std.specs.Map.{lookup}
-use Rattle.std.specs.Option.{option_map, unwrap_or}
-use Rattle.std.specs.Str.{bytes_eq}
-use Rattle.std.proofs.lemmas.Bool.{eqb-true}
-use Rattle.std.proofs.lemmas.List.{append_assoc, length-append, take-append-drop}
-use Rattle.std.proofs.lemmas.List.Folds.{list_any-append}
-use Rattle.std.proofs.lemmas.Slice.Eq.{bytes_eq-Decides}
-use Rattle.pc_lists.proofs.Gets.{get_behind}
+use Rattle.std.proofs.{Common.{◌≡◌, ℕ, suc, List, [], ◌∷◌, ◌++◌, Bool, true, false, ◌||◌, cond, map, length, take, drop, Option, Some, None, is_some, refl, sym, ap, ◌∙◌, arith, if◌then◌else◌}, lemmas.Bool.eqb-true, lemmas.List.{append_assoc, length-append, take-append-drop}, lemmas.List.Folds.list_any-append, lemmas.Slice.Eq.bytes_eq-Decides}
+use Rattle.std.specs.{Prelude.nat_eq, Map.lookup, Option.{option_map, unwrap_or}, Str.bytes_eq}
+use Rattle.pc_base.proofs.Gets.{get_behind}
 use Rattle.pc_caps.specs.declared.capability.Cap.{Cap}
 use Rattle.pc_tree.specs.declared.written_names.TypeRef.{TypeRef}
 use Rattle.pc_members.specs.Members as words
 use Rattle.pc_members.specs.MemberLists.{with_name, with_names}
-use Rattle.pc_body_spec.specs.Bodies.{Constructor, KnownEntity, PlacedLocal, Visible, TypeMeaning, no_value, is_among_names, slot_named, slot_at, constructor_named, type_from, by_kind, is_own}
-use Rattle.pc_body_spec.specs.Faults.{is_entity}
-use Rattle.pc_body_spec.specs.Fold.{type_of_name}
-use Rattle.pc_body_spec.specs.Parts.{cap_or}
-use Rattle.pc_resolve.specs.Indexes.{firsts}
-use Rattle.pc_resolve.specs.Pairs.{constructor_pair, visible_pair, placed_pair, known_pairs, known_at, picked}
-use Rattle.pc_resolve.proofs.Indexes.{lookup_firsts, or_else}
-use Rattle.pc_resolve.proofs.Texts.{bytes_eq_sym, nat_eq_sym}
+use Rattle.pc_body_spec.specs.{Bodies.{Constructor, KnownEntity, PlacedLocal, Visible, TypeMeaning, no_value, is_among_names, slot_named, slot_at, constructor_named, type_from, by_kind, is_own}, Faults.is_entity, Fold.type_of_name, Parts.cap_or}
+use Rattle.pc_resolve.specs.{Indexes.firsts, Pairs.{constructor_pair, visible_pair, placed_pair, known_pairs, known_at, picked}}
+use Rattle.pc_resolve.proofs.{Indexes.{lookup_firsts, or_else}, Texts.{bytes_eq_sym, nat_eq_sym}}
 
 same_bytes : (a b : List ℕ) → bytes_eq a b ≡ true → a ≡ b
 same_bytes a b h = (bytes_eq-Decides a b).0 h

@@ -1,13 +1,7 @@
 -- The first values of keys, and the list that an index of names represents.
-use Rattle.std.proofs.Common.{◌≡◌, ℕ, zero, suc, List, [], ◌∷◌, ◌++◌, Bool, true, false, cond, map, length, take, Option, Some, None, is_some, Vec, Global, refl, sym, ap, ◌∙◌, if◌then◌else◌}
-use Rattle.std.specs.Prelude.{slice_get, nat_eq}
-use Rattle.std.specs.Map.{lookup}
-use Rattle.std.specs.Str.{bytes_eq}
-use Rattle.std.proofs.lemmas.List.{append-nil, append_assoc, length-map, map-append}
-use Rattle.std.proofs.lemmas.Option.{same_Some}
-use Rattle.pc_lists.proofs.Bools.{true_false}
-use Rattle.pc_lists.proofs.Options.{none_some}
-use Rattle.pc_lists.proofs.Cuts.{take_front}
+use Rattle.std.proofs.{Common.{◌≡◌, ℕ, zero, suc, List, [], ◌∷◌, ◌++◌, Bool, true, false, cond, map, length, take, Option, Some, None, is_some, Vec, Global, refl, sym, ap, ◌∙◌, if◌then◌else◌}, lemmas.List.{append-nil, append_assoc, length-map, map-append}, lemmas.Option.same_Some}
+use Rattle.std.specs.{Prelude.{slice_get, nat_eq}, Map.lookup, Str.bytes_eq}
+use Rattle.pc_base.proofs.{Bools.true_false, Options.none_some, Cuts.take_front}
 use Rattle.pc_resolve.specs.Indexes.{with_first, with_firsts, firsts, marks}
 use Rattle.indexmap.specs.IndexMap.{IndexMap, insert_entry}
 use Rattle.indexmap.proofs.CallerLemmas.{insert_entry-new}

@@ -1,6 +1,5 @@
 -- A row, cut behind the elements that are looked through.
-use Rattle.std.proofs.Common.{◌≡◌, ℕ, List, length, take, drop, min}
-use Rattle.std.proofs.lemmas.List.{take_min, drop_min}
+use Rattle.std.proofs.{Common.{◌≡◌, ℕ, List, length, take, drop, min}, lemmas.List.{take_min, drop_min}}
 
 pub taken : {T : Type 0} → (n : ℕ) (row : List T) → take (min n (length row)) row ≡ take n row
 taken n row = take_min n row

@@ -1,10 +1,6 @@
 -- The number of a text.
-use Rattle.std.proofs.Common.{◌≡◌, ℕ, suc, ◌+◌, Bool, true, false, Option, List, [], ◌∷◌, Some, None, cond, refl, ap, ◌∙◌, sym, arith, if◌then◌else◌}
-use Rattle.std.specs.Prelude.{position, nat_eq}
-use Rattle.std.specs.List.{position_from}
-use Rattle.std.specs.Str.{bytes_eq}
-use Rattle.std.proofs.lemmas.Iterator.Adapters.{position_from-zero}
-use Rattle.std.proofs.lemmas.Bool.{eq-eqb, eqb-true}
+use Rattle.std.proofs.{Common.{◌≡◌, ℕ, suc, ◌+◌, Bool, true, false, Option, List, [], ◌∷◌, Some, None, cond, refl, ap, ◌∙◌, sym, arith, if◌then◌else◌}, lemmas.Iterator.Adapters.position_from-zero, lemmas.Bool.{eq-eqb, eqb-true}}
+use Rattle.std.specs.{Prelude.{position, nat_eq}, List.position_from, Str.bytes_eq}
 use Rattle.pc_body_spec.specs.Bodies.{text_from}
 
 abbrev or_zero : Option ℕ → ℕ

@@ -1,17 +1,10 @@
 -- A scope together with the index of its names.
-use Rattle.std.proofs.Common.{◌≡◌, ℕ, zero, suc, ◌+◌, ◌-◌, ◌<◌, ◌≤◌, Bool, true, false, List, [], ◌∷◌, ◌++◌, map, length, take, drop, Some, None, refl, sym, ap, subst, ◌∙◌, arith, if◌then◌else◌}
-use Rattle.std.specs.Prelude.{slice_get, nat_lt}
-use Rattle.std.specs.Map.{lookup}
-use Rattle.std.specs.Str.{bytes_eq}
-use Rattle.std.proofs.lemmas.Bool.{ltb-true, ltb-false}
-use Rattle.std.proofs.lemmas.List.{map-append, take-map, drop-map, drop-take, drop_all, drop-append-le, length-append, length-take}
-use Rattle.pc_lists.proofs.Gets.{get_drop, get_map}
-use Rattle.pc_lists.proofs.Options.{none_some}
+use Rattle.std.proofs.{Common.{◌≡◌, ℕ, zero, suc, ◌+◌, ◌-◌, ◌<◌, ◌≤◌, Bool, true, false, List, [], ◌∷◌, ◌++◌, map, length, take, drop, Some, None, refl, sym, ap, subst, ◌∙◌, arith, if◌then◌else◌}, lemmas.Bool.{ltb-true, ltb-false}, lemmas.List.{map-append, take-map, drop-map, drop-take, drop_all, drop-append-le, length-append, length-take}}
+use Rattle.std.specs.{Prelude.{slice_get, nat_lt}, Map.lookup, Str.bytes_eq}
+use Rattle.pc_base.proofs.{Gets.{get_drop, get_map}, Options.none_some}
 use Rattle.pc_body_spec.specs.Bodies.{Visible, slot_named}
-use Rattle.pc_resolve.specs.Indexes.{firsts, with_first, marks}
-use Rattle.pc_resolve.specs.Pairs.{visible_pair}
-use Rattle.pc_resolve.proofs.Indexes.{firsts_push, marks_push, marks_take, mark_found, or_else}
-use Rattle.pc_resolve.proofs.Found.{slot_cut, visible_found}
+use Rattle.pc_resolve.specs.{Indexes.{firsts, with_first, marks}, Pairs.visible_pair}
+use Rattle.pc_resolve.proofs.{Indexes.{firsts_push, marks_push, marks_take, mark_found, or_else}, Found.{slot_cut, visible_found}}
 
 pub map_take : {A B : Type 0} → (f : A → B) (n : ℕ) (xs : List A) → map f (take n xs) ≡ take n (map f xs)
 map_take f zero xs = refl

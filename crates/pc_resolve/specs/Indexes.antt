@@ -1,6 +1,5 @@
 -- Keys with values, where the first value of each key counts.
-use Rattle.std.specs.Prelude.{ℕ, Bool, List, [], ◌∷◌, ◌++◌, is_some, length, if◌then◌else◌}
-use Rattle.std.specs.Map.{lookup}
+use Rattle.std.specs.{Prelude.{ℕ, Bool, List, [], ◌∷◌, ◌++◌, is_some, length, if◌then◌else◌}, Map.lookup}
 
 module _ {K X : Type 0} (eq : K → K → Bool) where
   -- Appends the pair, unless its key is there already.

@@ -1,6 +1,5 @@
 -- What the elements of lists are looked up by, and what is found.
-use Rattle.std.specs.Prelude.{ℕ, suc, List, [], ◌∷◌, Option, Some, None, slice_get, if◌then◌else◌}
-use Rattle.std.specs.{Option.option_map, Str.bytes_eq}
+use Rattle.std.specs.{Prelude.{ℕ, suc, List, [], ◌∷◌, Option, Some, None, slice_get, if◌then◌else◌}, Option.option_map, Str.bytes_eq}
 use Rattle.pc_body_spec.specs.Bodies.{Constructor, KnownEntity, PlacedLocal, Visible}
 
 abbrev pub constructor_pair : Constructor → List ℕ × ℕ

@@ -8,7 +8,7 @@ ghost use Rattle.pc_resolve.specs.Pairs.{constructor_pair};
 
 use crate::index::Index;
 use crate::near::{far, near};
-use pc_caps::{List, ShortBytes};
+use pc_base::{List, ShortBytes};
 use pc_keyed::KeyedBy;
 use std::alloc::{AllocError, Global};
 use std::marker::Model;

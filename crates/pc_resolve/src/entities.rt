@@ -7,7 +7,8 @@ ghost use Rattle.pc_resolve.specs.Pairs.{known_at, known_pairs, picked};
 
 use crate::constructors::Constructors;
 use crate::index::Index;
-use pc_caps::{Cap, List, ShortBytes};
+use pc_base::{List, ShortBytes};
+use pc_caps::Cap;
 use pc_keyed::KeyedBy;
 use pc_tree::EntityKind;
 use std::alloc::{AllocError, Global};

@@ -5,7 +5,7 @@ ghost use Rattle.pc_resolve.specs.Indexes.{firsts, with_first, with_firsts};
 ghost use Rattle.pc_resolve.specs.Pairs.{placed_pair};
 
 use indexmap::IndexMap;
-use pc_caps::List;
+use pc_base::List;
 use pc_keyed::KeyedBy;
 use std::alloc::{AllocError, Global};
 use std::marker::Model;

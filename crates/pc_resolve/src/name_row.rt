@@ -4,7 +4,7 @@ ghost use Rattle.pc_body_spec.specs.Bodies as spec;
 ghost use Rattle.pc_members.specs.MemberLists.{with_names};
 
 use crate::near::{far, near};
-use pc_caps::{List, ShortBytes};
+use pc_base::{List, ShortBytes};
 use pc_keyed::KeyedBy;
 use pc_members::NameTable;
 use std::alloc::{AllocError, Global};

@@ -3,7 +3,7 @@ ghost use Rattle.std.specs.Prelude.{◌≡◌, ◌∷◌, [], ◌++◌, IfOk, On
 ghost use Rattle.pc_body_spec.specs.Bodies as spec;
 
 use crate::scope::Visible;
-use pc_caps::{List, ShortBytes};
+use pc_base::{List, ShortBytes};
 use pc_tree::{Name, ParamDef};
 use std::alloc::{AllocError, Global};
 

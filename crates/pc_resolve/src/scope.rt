@@ -7,7 +7,7 @@ ghost use Rattle.pc_resolve.specs.Near.{near_count};
 
 use crate::index::Index;
 use crate::near::{NEAR, near};
-use pc_caps::{List, ShortBytes};
+use pc_base::{List, ShortBytes};
 use pc_keyed::KeyedBy;
 use std::alloc::{AllocError, Global};
 use std::marker::Model;

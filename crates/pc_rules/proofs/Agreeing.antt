@@ -1,44 +1,19 @@
 -- Two annotations of a core, node by node: if they agree before a node, and start it from the same masks, they agree at
 -- it.
 use Rattle.std.specs.Prelude.{◌≡◌, ℕ, ◌+◌, ◌-◌, ◌<◌, ◌≤◌, true, ◌&&◌, nat_eq, length, Some, slice_get, refl}
-use Rattle.std.proofs.Common.{inl, inr, ap, sym, subst, ◌∙◌, arith}
-use Rattle.std.proofs.lemmas.Option.{same_Some, none-some}
-use Rattle.std.proofs.lemmas.Bool.{cases_lt, and_parts, eqb-true}
-use Rattle.pc_lists.proofs.Gets.{get_below, get_within, get_map, range_get}
+use Rattle.std.proofs.{Common.{inl, inr, ap, sym, subst, ◌∙◌, arith}, lemmas.Option.{same_Some, none-some}, lemmas.Bool.{cases_lt, and_parts, eqb-true}}
+use Rattle.pc_base.proofs.{Gets.{get_below, get_within, get_map, range_get}, Ranges.run_within, Options.{bind_some, kept}, Bools.false_true}
 use Rattle.pc_caps.specs.declared.capability.Cap.{Cap}
 use Rattle.pc_caps.specs.declared.capability.Cap.TheVariants as cap
-use Rattle.pc_core.specs.declared.declarations.Method.{Method}
-use Rattle.pc_core.specs.declared.nodes.Slot.{Slot}
-use Rattle.pc_core.specs.declared.nodes.Node.{Node}
-use Rattle.pc_core.specs.declared.nodes.NodeKind.{NodeKind}
+use Rattle.pc_core.specs.{declared.declarations.Method.Method, declared.nodes.Slot.Slot, declared.nodes.Node.Node, declared.nodes.NodeKind.NodeKind, CoreData.{CoreData, node_end}, Methods.{LocalFits, BodyFits, UsesSlot}, Entities.this_slot, Nodes.{NamesSlot, NamesFit}, Formed.Formed}
 use Rattle.pc_core.specs.declared.nodes.NodeKind.TheVariants as node
-use Rattle.pc_core.specs.CoreData.{CoreData, node_end}
-use Rattle.pc_lists.specs.Lists.{Each}
-use Rattle.pc_core.specs.Methods.{LocalFits, BodyFits, UsesSlot}
-use Rattle.pc_core.specs.Entities.{this_slot}
-use Rattle.pc_core.specs.Nodes.{NamesSlot, NamesFit}
-use Rattle.pc_core.specs.Formed.{Formed}
-use Rattle.pc_lists.proofs.Ranges.{run_within}
-use Rattle.pc_lists.proofs.Options.{bind_some, kept}
-use Rattle.pc_masks.specs.declared.mask.Mask.{Mask}
-use Rattle.pc_ann.specs.declared.annotation.Note.{Note}
-use Rattle.pc_ann.specs.declared.annotation.Ann.{Ann}
-use Rattle.pc_ann.specs.declared.annotation.Rule.{Rule}
-use Rattle.pc_masks.specs.Masks.{same, first}
-use Rattle.pc_rules.specs.declared.said.Said.{Said}
-use Rattle.pc_rules.specs.Parts.{through, type_of, one_child, goes_to}
-use Rattle.pc_valid.specs.Words.{Ty, Masks, before}
-use Rattle.pc_valid.specs.Valid.{KeepsWritten}
-use Rattle.pc_rules.specs.Values.{same_cap, same_place, defined_type, defines}
-use Rattle.pc_rules.specs.Control.{start_set, starts_method, result_ok}
-use Rattle.pc_rules.proofs.ByNumber.{slot_of, defined, define_says, body_says}
-use Rattle.pc_rules.specs.Rules.{says, said_by, IsSaid}
-use Rattle.pc_lists.proofs.Bools.{false_true}
-use Rattle.pc_rules.proofs.OneRule.{is_rule_at, define_rule, body_rule}
+use Rattle.pc_base.specs.Lists.{Each}
+use Rattle.pc_masks.specs.{declared.mask.Mask.Mask, Masks.{same, first}}
+use Rattle.pc_ann.specs.{declared.annotation.Note.Note, declared.annotation.Ann.Ann, declared.annotation.Rule.Rule}
+use Rattle.pc_rules.specs.{declared.said.Said.Said, Parts.{through, type_of, one_child, goes_to}, Values.{same_cap, same_place, defined_type, defines}, Control.{start_set, starts_method, result_ok}, Rules.{says, said_by, IsSaid}}
+use Rattle.pc_valid.specs.{Words.{Ty, Masks, before}, Valid.KeepsWritten}
+use Rattle.pc_rules.proofs.{ByNumber.{slot_of, defined, define_says, body_says}, OneRule.{is_rule_at, define_rule, body_rule}, Bridge.by_number, Alike.{LooksAlike, slot_same, says_same, type_same, at_one}, Slotted.{slot_known, this_known}}
 use Rattle.pc_core.proofs.Homes.{home, home_method}
-use Rattle.pc_rules.proofs.Bridge.{by_number}
-use Rattle.pc_rules.proofs.Alike.{LooksAlike, slot_same, says_same, type_same, at_one}
-use Rattle.pc_rules.proofs.Slotted.{slot_known, this_known}
 
 -- ---- equalities
 

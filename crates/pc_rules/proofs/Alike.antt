@@ -1,23 +1,16 @@
 -- The conclusion of a rule for a node is the same in two annotations with the same notes of its children and the same
 -- type of the slot that it uses.
 use Rattle.std.specs.Prelude.{◌≡◌, ℕ, suc, ◌+◌, List, [], ◌∷◌, Option, Some, None, slice_get, refl}
-use Rattle.std.proofs.Common.{ap, ◌∙◌}
-use Rattle.std.proofs.lemmas.Option.{none-some}
-use Rattle.pc_core.specs.declared.declarations.Method.{Method}
-use Rattle.pc_core.specs.declared.nodes.Node.{Node}
-use Rattle.pc_core.specs.declared.nodes.NodeKind.{NodeKind}
+use Rattle.std.proofs.{Common.{ap, ◌∙◌}, lemmas.Option.none-some}
+use Rattle.pc_core.specs.{declared.declarations.Method.Method, declared.nodes.Node.Node, declared.nodes.NodeKind.NodeKind, CoreData.CoreData}
 use Rattle.pc_core.specs.declared.nodes.NodeKind.TheVariants as node
-use Rattle.pc_core.specs.CoreData.{CoreData}
-use Rattle.pc_lists.specs.Lists.{Each, ◌>>=◌}
-use Rattle.pc_ann.specs.declared.annotation.Note.{Note}
-use Rattle.pc_ann.specs.declared.annotation.Ann.{Ann}
-use Rattle.pc_ann.specs.declared.annotation.Rule.{Rule}
+use Rattle.pc_base.specs.Lists.{Each, ◌>>=◌}
+use Rattle.pc_ann.specs.{declared.annotation.Note.Note, declared.annotation.Ann.Ann, declared.annotation.Rule.Rule}
 use Rattle.pc_ann.specs.declared.annotation.Rule.TheVariants as rule
-use Rattle.pc_rules.specs.Parts.{type_of, one_child, one_type, notes_of}
+use Rattle.pc_rules.specs.{Parts.{type_of, one_child, one_type, notes_of}, Rules.{rule_says, says}}
 use Rattle.pc_valid.specs.Words.{Masks}
 use Rattle.pc_rules.specs.Parts as parts
 use Rattle.pc_rules.specs.Values as values
-use Rattle.pc_rules.specs.Rules.{rule_says, says}
 use Rattle.pc_rules.proofs.ByNumber.{slot_of}
 
 pub bind_same : {A B : Type 0} → (o p : Option A) (f g : A → Option B) → o ≡ p → ((x : A) → p ≡ Some x → f x ≡ g x) → (o >>= f) ≡ (p >>= g)

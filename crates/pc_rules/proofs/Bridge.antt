@@ -1,29 +1,16 @@
 -- The conclusion of a rule for a node of an annotation by the numbers of its children is its conclusion by their notes.
 use Rattle.std.specs.Prelude.{◌≡◌, ◌↔◌, ℕ, zero, suc, ◌-◌, Bool, true, false, cond, ◌&&◌, nat_eq, List, [], ◌∷◌, length, take, Option, Some, None, slice_get, refl}
-use Rattle.std.proofs.Common.{ap, sym, subst, ◌∙◌}
-use Rattle.std.proofs.lemmas.Option.{same_Some}
-use Rattle.pc_caps.specs.declared.capability.Cap.{Cap}
-use Rattle.pc_caps.specs.declared.capability.Form.{Form}
+use Rattle.std.proofs.{Common.{ap, sym, subst, ◌∙◌}, lemmas.Option.same_Some}
+use Rattle.pc_caps.specs.{declared.capability.Cap.Cap, declared.capability.Form.Form, Tables.view, Computed.fits}
 use Rattle.pc_caps.specs.declared.capability.Form.TheVariants as form
-use Rattle.pc_caps.specs.Tables.{view}
-use Rattle.pc_caps.specs.Computed.{fits}
-use Rattle.pc_core.specs.declared.declarations.Method.{Method}
-use Rattle.pc_core.specs.declared.declarations.ParamInfo.{ParamInfo}
-use Rattle.pc_core.specs.declared.nodes.Node.{Node}
-use Rattle.pc_core.specs.declared.nodes.NodeKind.{NodeKind}
+use Rattle.pc_core.specs.{declared.declarations.Method.Method, declared.declarations.ParamInfo.ParamInfo, declared.nodes.Node.Node, declared.nodes.NodeKind.NodeKind, CoreData.CoreData, Nodes.HasArity}
 use Rattle.pc_core.specs.declared.nodes.NodeKind.TheVariants as node
-use Rattle.pc_core.specs.CoreData.{CoreData}
-use Rattle.pc_lists.specs.Lists.{◌>>=◌}
-use Rattle.pc_lists.proofs.Options.{bind_some}
-use Rattle.pc_core.specs.Nodes.{HasArity}
-use Rattle.pc_masks.specs.declared.mask.Mask.{Mask}
-use Rattle.pc_masks.specs.Masks.{within, same}
-use Rattle.pc_ann.specs.declared.annotation.Note.{Note}
-use Rattle.pc_ann.specs.declared.annotation.Ann.{Ann}
-use Rattle.pc_ann.specs.declared.annotation.Rule.{Rule}
+use Rattle.pc_base.specs.Lists.{◌>>=◌}
+use Rattle.pc_base.proofs.Options.{bind_some}
+use Rattle.pc_masks.specs.{declared.mask.Mask.Mask, Masks.{within, same}}
+use Rattle.pc_ann.specs.{declared.annotation.Note.Note, declared.annotation.Ann.Ann, declared.annotation.Rule.Rule}
 use Rattle.pc_ann.specs.declared.annotation.Rule.TheVariants as rule
-use Rattle.pc_rules.specs.declared.said.Said.{Said}
-use Rattle.pc_rules.specs.Parts.{says_of, reads_as, constructs, starts, through, through_notes, type_of, types_of, one_child, one_note, one_type, two_notes, three_notes, last_child, last_note, notes_of}
+use Rattle.pc_rules.specs.{declared.said.Said.Said, Parts.{says_of, reads_as, constructs, starts, through, through_notes, type_of, types_of, one_child, one_note, one_type, two_notes, three_notes, last_child, last_note, notes_of}, Fields.lacks_fields, Operators.{is_arithmetic, is_comparison, is_equality, is_add, is_xor, comparable, both_read_as, meet_masks}, Control.{is_condition, joined}, Calls.{argument_goes, argument_sendable, is_function, is_behaviour, lends}, Rules.{rule_says, says, said_by, IsSaid, NoteIsSaid}}
 use Rattle.pc_valid.specs.Words.{Ty, Masks, Slots, before, masks_after}
 use Rattle.pc_rules.specs.Parts as parts
 use Rattle.pc_rules.specs.Values as values
@@ -31,15 +18,8 @@ use Rattle.pc_rules.specs.Fields as fields
 use Rattle.pc_rules.specs.Calls as calls
 use Rattle.pc_rules.specs.Operators as operators
 use Rattle.pc_rules.specs.Control as control
-use Rattle.pc_rules.specs.Fields.{lacks_fields}
-use Rattle.pc_rules.specs.Operators.{is_arithmetic, is_comparison, is_equality, is_add, is_xor, comparable, both_read_as, meet_masks}
-use Rattle.pc_rules.specs.Control.{is_condition, joined}
-use Rattle.pc_rules.specs.Calls.{argument_goes, argument_sendable, is_function, is_behaviour, lends}
-use Rattle.pc_rules.specs.Rules.{rule_says, says, said_by, IsSaid, NoteIsSaid}
-use Rattle.pc_rules.proofs.ByNumber.{two_children, three_children, own_seen}
+use Rattle.pc_rules.proofs.{ByNumber.{two_children, three_children, own_seen}, Alike.bind_same, Threads.{is_branch, Threaded, then_way, else_way, threads, if_threads}}
 use Rattle.pc_rules.proofs.ByNumber as numbered
-use Rattle.pc_rules.proofs.Alike.{bind_same}
-use Rattle.pc_rules.proofs.Threads.{is_branch, Threaded, then_way, else_way, threads, if_threads}
 
 -- The notes of these nodes are these.
 abbrev pub Noted : Ann → List ℕ → List Note → Type 0

@@ -1,36 +1,17 @@
 -- As in `specs/`: the conclusion of each rule for a node of an annotation, computed by the numbers of its children.
 -- Proofs about whole annotations take a rule apart in this form; `Bridge` shows that both are the same.
 use Rattle.std.specs.Prelude.{◌≡◌, ℕ, ◌+◌, ◌-◌, Bool, true, false, ◌&&◌, cond, nat_eq, List, [], ◌∷◌, length, take, Option, Some, None, slice_get, if◌then◌else◌}
-use Rattle.pc_caps.specs.Tables.{view, plain, unalias}
-use Rattle.pc_caps.specs.Computed.{fits}
-use Rattle.pc_caps.specs.declared.capability.Cap.{Cap}
-use Rattle.pc_caps.specs.declared.capability.Form.{Form}
+use Rattle.pc_caps.specs.{Tables.{view, plain, unalias}, Computed.fits, declared.capability.Cap.Cap, declared.capability.Form.Form}
 use Rattle.pc_caps.specs.declared.capability.Form.TheVariants as form
 use Rattle.pc_tree.specs.declared.kinds.Op.{Op}
-use Rattle.pc_core.specs.declared.declarations.FieldInfo.{FieldInfo}
-use Rattle.pc_core.specs.declared.declarations.Method.{Method}
-use Rattle.pc_core.specs.declared.declarations.ParamInfo.{ParamInfo}
-use Rattle.pc_core.specs.declared.nodes.Slot.{Slot}
-use Rattle.pc_core.specs.declared.nodes.Node.{Node}
-use Rattle.pc_core.specs.declared.nodes.NodeKind.{NodeKind}
+use Rattle.pc_core.specs.{declared.declarations.FieldInfo.FieldInfo, declared.declarations.Method.Method, declared.declarations.ParamInfo.ParamInfo, declared.nodes.Slot.Slot, declared.nodes.Node.Node, declared.nodes.NodeKind.NodeKind, CoreData.{CoreData, method_named}}
 use Rattle.pc_core.specs.declared.nodes.NodeKind.TheVariants as node
-use Rattle.pc_core.specs.CoreData.{CoreData, method_named}
-use Rattle.pc_lists.specs.Lists.{◌>>=◌}
-use Rattle.pc_masks.specs.declared.mask.Mask.{Mask}
-use Rattle.pc_ann.specs.declared.annotation.Note.{Note}
-use Rattle.pc_ann.specs.declared.annotation.Ann.{Ann}
-use Rattle.pc_ann.specs.declared.annotation.Rule.{Rule}
+use Rattle.pc_base.specs.Lists.{◌>>=◌}
+use Rattle.pc_masks.specs.{declared.mask.Mask.Mask, Masks.{has, with_number, without_number, within, same}}
+use Rattle.pc_ann.specs.{declared.annotation.Note.Note, declared.annotation.Ann.Ann, declared.annotation.Rule.Rule}
 use Rattle.pc_ann.specs.declared.annotation.Rule.TheVariants as rule
-use Rattle.pc_masks.specs.Masks.{has, with_number, without_number, within, same}
-use Rattle.pc_rules.specs.declared.said.Said.{Said}
-use Rattle.pc_rules.specs.Parts.{says_of, reads_as, reachable, constructs, through, type_of, one_child, last_child}
+use Rattle.pc_rules.specs.{declared.said.Said.Said, Parts.{says_of, reads_as, reachable, constructs, through, type_of, one_child, last_child}, Values.{literal_says, this_form, defines, assigns, old_value}, Fields.{own_field, is_this, lacks_fields, field_type, old_type, own_old, own_writes}, Calls.{argument_goes, is_function, is_behaviour, argument_sendable, lends, recovered_result, has_string}, Operators.{is_arithmetic, is_comparison, is_equality, is_add, is_xor, both_read_as, comparable, meet_masks}, Control.{without_items, joined, is_condition, recovered, starts_method, result_ok}, Rules.said_by}
 use Rattle.pc_valid.specs.Words.{Ty, Masks, before}
-use Rattle.pc_rules.specs.Values.{literal_says, this_form, defines, assigns, old_value}
-use Rattle.pc_rules.specs.Fields.{own_field, is_this, lacks_fields, field_type, old_type, own_old, own_writes}
-use Rattle.pc_rules.specs.Calls.{argument_goes, is_function, is_behaviour, argument_sendable, lends, recovered_result, has_string}
-use Rattle.pc_rules.specs.Operators.{is_arithmetic, is_comparison, is_equality, is_add, is_xor, both_read_as, comparable, meet_masks}
-use Rattle.pc_rules.specs.Control.{without_items, joined, is_condition, recovered, starts_method, result_ok}
-use Rattle.pc_rules.specs.Rules.{said_by}
 
 -- ---- parts
 

@@ -1,18 +1,14 @@
 -- The example, computed.
 use Rattle.std.specs.Prelude.{◌≡◌, ℕ, Bool, true, false, [], ◌∷◌, Option, Some, None, slice_get, refl}
-use Rattle.std.proofs.Common.{ap, sym, subst, ◌∙◌, arith}
-use Rattle.std.proofs.lemmas.Option.{same_Some, none-some}
+use Rattle.std.proofs.{Common.{ap, sym, subst, ◌∙◌, arith}, lemmas.Option.{same_Some, none-some}}
 use Rattle.pc_caps.specs.declared.capability.Form.{Form}
 use Rattle.pc_caps.specs.declared.capability.Form.TheVariants as form
 use Rattle.pc_core.specs.declared.nodes.Node.{Node}
 use Rattle.pc_core.specs.declared.nodes.NodeKind.TheVariants as node
-use Rattle.pc_ann.specs.declared.annotation.Note.{Note}
-use Rattle.pc_ann.specs.declared.annotation.Rule.{Rule}
+use Rattle.pc_ann.specs.{declared.annotation.Note.Note, declared.annotation.Rule.Rule}
 use Rattle.pc_ann.specs.declared.annotation.Rule.TheVariants as rule
-use Rattle.pc_rules.specs.declared.said.Said.{Said}
-use Rattle.pc_rules.specs.Rules.{IsSaid}
-use Rattle.pc_rules.specs.Example.{four_slots, derivation, at, node_of, noted, EachMeets, MeetsNone, WrongNotes}
-use Rattle.pc_lists.proofs.Bools.{true_false}
+use Rattle.pc_rules.specs.{declared.said.Said.Said, Rules.IsSaid, Example.{four_slots, derivation, at, node_of, noted, EachMeets, MeetsNone, WrongNotes}}
+use Rattle.pc_base.proofs.Bools.{true_false}
 
 pub each_meets : EachMeets
 each_meets = ((_, _, refl, refl, refl), (_, _, refl, refl, refl), (_, _, refl, refl, refl), (_, _, refl, refl, refl), (_, _, refl, refl, refl), (_, _, refl, refl, refl), (_, _, refl, refl, refl))

@@ -1,11 +1,8 @@
 -- A test of one node decides whether its rule holds.
 use Rattle.std.specs.Prelude.{◌≡◌, ◌↔◌, ◌<◌, ℕ, Bool, List, Some, None, IsTrue, length, slice_get}
-use Rattle.std.proofs.Common.{sym, subst, ◌∙◌}
-use Rattle.std.proofs.lemmas.Option.{same_Some, none-some}
-use Rattle.pc_core.specs.declared.nodes.Node.{Node}
-use Rattle.pc_core.specs.CoreData.{CoreData}
-use Rattle.pc_ann.specs.declared.annotation.Note.{Note}
-use Rattle.pc_ann.specs.declared.annotation.Ann.{Ann}
+use Rattle.std.proofs.{Common.{sym, subst, ◌∙◌}, lemmas.Option.{same_Some, none-some}}
+use Rattle.pc_core.specs.{declared.nodes.Node.Node, CoreData.CoreData}
+use Rattle.pc_ann.specs.{declared.annotation.Note.Note, declared.annotation.Ann.Ann}
 use Rattle.pc_rules.specs.Rules.{IsSaid, NoteIsSaid}
 use Rattle.pc_rules.proofs.Gathered.{note_within}
 

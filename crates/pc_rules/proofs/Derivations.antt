@@ -1,30 +1,14 @@
 -- Derivations, and what shows that there is none: by the records, and as computed.
 use Rattle.std.specs.Prelude.{◌≡◌, ◌↔◌, Bool, IsTrue, ℕ, ◌+◌, List, [], ◌∷◌, length, Option, Some, None, slice_get, refl}
-use Rattle.std.proofs.Common.{sym, subst, ◌∙◌}
-use Rattle.std.proofs.lemmas.Option.{same_Some, none-some}
-use Rattle.pc_core.specs.declared.declarations.Method.{Method}
-use Rattle.pc_core.specs.declared.nodes.Node.{Node}
-use Rattle.pc_core.specs.CoreData.{CoreData}
-use Rattle.pc_core.specs.Formed.{Formed}
-use Rattle.pc_lists.proofs.Options.{bind_some, bind_is}
-use Rattle.pc_lists.proofs.Bools.{no_both}
-use Rattle.pc_masks.specs.declared.mask.Mask.{Mask}
-use Rattle.pc_ann.specs.declared.annotation.Note.{Note}
-use Rattle.pc_ann.specs.declared.annotation.Rule.{Rule}
-use Rattle.pc_ann.specs.declared.annotation.Ann.{Ann}
-use Rattle.pc_masks.specs.Masks.{first}
-use Rattle.pc_rules.specs.declared.said.Said.{Said}
-use Rattle.pc_rules.specs.Parts.{notes_of, full}
-use Rattle.pc_rules.specs.Control.{start_set}
-use Rattle.pc_rules.specs.Rules.{rule_says, said_by, says, IsSaid, NoteIsSaid}
-use Rattle.pc_rules.specs.Checks.{FillsFields, Checks, StartsFrom, GoesWell, SaysNothing, StaysUnset}
+use Rattle.std.proofs.{Common.{sym, subst, ◌∙◌}, lemmas.Option.{same_Some, none-some}}
+use Rattle.pc_core.specs.{declared.declarations.Method.Method, declared.nodes.Node.Node, CoreData.CoreData, Formed.Formed}
+use Rattle.pc_base.proofs.{Options.{bind_some, bind_is}, Bools.no_both}
+use Rattle.pc_masks.specs.{declared.mask.Mask.Mask, Masks.first}
+use Rattle.pc_ann.specs.{declared.annotation.Note.Note, declared.annotation.Rule.Rule, declared.annotation.Ann.Ann}
+use Rattle.pc_rules.specs.{declared.said.Said.Said, Parts.{notes_of, full}, Control.start_set, Rules.{rule_says, said_by, says, IsSaid, NoteIsSaid}, Checks.{FillsFields, Checks, StartsFrom, GoesWell, SaysNothing, StaysUnset}, Statements.{MeetsTheSameRules, SameAreValid, SameHaveNoRule, SameAreUnset}}
 use Rattle.pc_rules.specs.Checks as starts
-use Rattle.pc_valid.specs.Words.{Slots, Masks, before}
-use Rattle.pc_valid.specs.Valid.{Means, AreNotes, Meets, MeetsRule, SetsFields, Valid}
-use Rattle.pc_valid.specs.NoRule.{Holds, Reaches, body, first_child, else_branch, next_child, MeetsReached, NoRule, Unset}
-use Rattle.pc_rules.specs.Statements.{MeetsTheSameRules, SameAreValid, SameHaveNoRule, SameAreUnset}
-use Rattle.pc_rules.proofs.RecordWords.{else_to, to_else, all_set_iff, constructs_iff, starts_to, to_starts}
-use Rattle.pc_rules.proofs.Records.{not_so, rules_say_what_is_meant}
+use Rattle.pc_valid.specs.{Words.{Slots, Masks, before}, Valid.{Means, AreNotes, Meets, MeetsRule, SetsFields, Valid}, NoRule.{Holds, Reaches, body, first_child, else_branch, next_child, MeetsReached, NoRule, Unset}}
+use Rattle.pc_rules.proofs.{RecordWords.{else_to, to_else, all_set_iff, constructs_iff, starts_to, to_starts}, Records.{not_so, rules_say_what_is_meant}}
 
 pub are_notes : (notes : List Note) (cs : List ℕ) (ns : List Note) → notes_of notes cs ≡ Some ns → AreNotes notes cs ns
 are_notes notes [] [] e = tt

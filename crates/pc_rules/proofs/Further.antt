@@ -1,20 +1,13 @@
 -- One more child, of the children from a place on.
 use Rattle.std.specs.Prelude.{◌≡◌, ℕ, zero, suc, ◌+◌, ◌<◌, ◌≤◌, length, take, Bool, true, false, cond, ◌&&◌, List, [], ◌∷◌, drop, Option, Some, None, slice_get, get_or}
-use Rattle.std.proofs.Common.{ap, sym, subst, ◌∙◌, arith}
-use Rattle.std.proofs.lemmas.List.{drop_all, length-take-le}
-use Rattle.pc_lists.proofs.Cuts.{take_whole}
-use Rattle.std.proofs.lemmas.Option.{same_Some, none-some, slice_get-get_or}
-use Rattle.pc_core.specs.declared.declarations.ParamInfo.{ParamInfo}
-use Rattle.pc_core.specs.CoreData.{CoreData}
-use Rattle.pc_lists.specs.Lists.{◌>>=◌}
-use Rattle.pc_lists.proofs.Gets.{take_get}
+use Rattle.std.proofs.{Common.{ap, sym, subst, ◌∙◌, arith}, lemmas.List.{drop_all, length-take-le}, lemmas.Option.{same_Some, none-some, slice_get-get_or}}
+use Rattle.pc_base.proofs.{Cuts.take_whole, Gets.take_get}
+use Rattle.pc_core.specs.{declared.declarations.ParamInfo.ParamInfo, CoreData.CoreData}
+use Rattle.pc_base.specs.Lists.{◌>>=◌}
 use Rattle.pc_masks.specs.declared.mask.Mask.{Mask}
 use Rattle.pc_ann.specs.declared.annotation.Note.{Note}
-use Rattle.pc_rules.specs.Parts.{starts, through_notes}
+use Rattle.pc_rules.specs.{Parts.{starts, through_notes}, Calls.{argument_goes, argument_sendable, arguments_go, arguments_sendable}, Children.{is_there, each_has, goes_at, goes_to_param, sendable_at, sendable_to_param}, Control.{without_item, without_items}}
 use Rattle.pc_valid.specs.Words.{Masks, masks_after}
-use Rattle.pc_rules.specs.Calls.{argument_goes, argument_sendable, arguments_go, arguments_sendable}
-use Rattle.pc_rules.specs.Children.{is_there, each_has, goes_at, goes_to_param, sendable_at, sendable_to_param}
-use Rattle.pc_rules.specs.Control.{without_item, without_items}
 use Rattle.pc_rules.proofs.Gathered.{note_within}
 
 drop_suc : {A : Type 0} → (ts : List A) (i : ℕ) (t : A) → slice_get ts i ≡ Some t → drop i ts ≡ t ∷ drop (suc i) ts

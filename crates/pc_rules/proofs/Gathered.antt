@@ -1,21 +1,12 @@
 -- The notes that are gathered by their numbers.
 use Rattle.std.specs.Prelude.{◌≡◌, ℕ, Bool, true, false, zero, suc, ◌<◌, ◌&&◌, List, [], ◌∷◌, length, Option, Some, None, slice_get, refl}
-use Rattle.std.proofs.Common.{ap, sym, subst, ◌∙◌, arith}
-use Rattle.std.proofs.lemmas.Option.{same_Some, none-some}
-use Rattle.std.proofs.lemmas.Bool.{and_parts}
-use Rattle.pc_core.specs.declared.nodes.Node.{Node}
-use Rattle.pc_core.specs.declared.nodes.NodeKind.{NodeKind}
-use Rattle.pc_core.specs.CoreData.{CoreData}
-use Rattle.pc_lists.specs.Lists.{◌>>=◌}
-use Rattle.pc_lists.proofs.Gets.{get_below}
-use Rattle.pc_ann.specs.declared.annotation.Note.{Note}
-use Rattle.pc_ann.specs.declared.annotation.Ann.{Ann}
-use Rattle.pc_ann.specs.declared.annotation.Rule.{Rule}
-use Rattle.pc_rules.specs.Parts.{notes_of}
+use Rattle.std.proofs.{Common.{ap, sym, subst, ◌∙◌, arith}, lemmas.Option.{same_Some, none-some}, lemmas.Bool.and_parts}
+use Rattle.pc_core.specs.{declared.nodes.Node.Node, declared.nodes.NodeKind.NodeKind, CoreData.CoreData}
+use Rattle.pc_base.specs.Lists.{◌>>=◌}
+use Rattle.pc_base.proofs.{Gets.get_below, Bools.false_true}
+use Rattle.pc_ann.specs.{declared.annotation.Note.Note, declared.annotation.Ann.Ann, declared.annotation.Rule.Rule}
+use Rattle.pc_rules.specs.{Parts.notes_of, Rules.{rule_says, says}, Children.{HaveNotes, is_there, each_has, put_before, gather, all_or_gathered, MayGather, picked_note}}
 use Rattle.pc_valid.specs.Words.{Masks}
-use Rattle.pc_rules.specs.Rules.{rule_says, says}
-use Rattle.pc_lists.proofs.Bools.{false_true}
-use Rattle.pc_rules.specs.Children.{HaveNotes, is_there, each_has, put_before, gather, all_or_gathered, MayGather, picked_note}
 
 pub note_within : {A : Type 0} → (notes : List A) (c : ℕ) → c < length notes → (t : A) × (slice_get notes c ≡ Some t)
 note_within [] c l = absurd (omega (arith, l))

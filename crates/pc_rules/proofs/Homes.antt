@@ -1,14 +1,10 @@
 -- The tree of a node.
 use Rattle.std.specs.Prelude.{◌≡◌, ℕ, ◌+◌, ◌-◌, ◌<◌, ◌≤◌, List, [], ◌∷◌, length, Some, slice_get}
-use Rattle.std.proofs.Common.{inl, inr, ap, sym, subst, ◌∙◌, arith}
-use Rattle.std.proofs.lemmas.Option.{same_Some}
-use Rattle.std.proofs.lemmas.Bool.{cases_lt}
-use Rattle.pc_lists.specs.Lists.{Each}
-use Rattle.pc_lists.proofs.Gets.{get_below, range_get}
-use Rattle.pc_core.specs.declared.nodes.Node.{Node}
+use Rattle.std.proofs.{Common.{inl, inr, ap, sym, subst, ◌∙◌, arith}, lemmas.Option.same_Some, lemmas.Bool.cases_lt}
+use Rattle.pc_base.specs.Lists.{Each}
+use Rattle.pc_base.proofs.Gets.{get_below, range_get}
+use Rattle.pc_core.specs.{declared.nodes.Node.Node, CoreData.{CoreData, node_end}, Formed.Formed}
 use Rattle.pc_core.specs.declared.nodes.NodeKind.TheVariants as node
-use Rattle.pc_core.specs.CoreData.{CoreData, node_end}
-use Rattle.pc_core.specs.Formed.{Formed}
 use Rattle.pc_core.proofs.Homes.{Home, home}
 use Rattle.pc_rules.specs.Trees.{Tree, Forest, tree, empty, more, body_tree, forest_below}
 

@@ -1,25 +1,14 @@
 -- The laws of the rules, proved.
 use Rattle.std.specs.Prelude.{◌≡◌, ◌≢◌, ◌⊎◌, ◌↔◌, ℕ, zero, suc, ◌<◌, Bool, true, false, cond, List, [], ◌∷◌, Option, Some, None, slice_get, refl}
-use Rattle.std.proofs.Common.{ap, sym, subst, ◌∙◌}
-use Rattle.std.proofs.lemmas.Option.{same_Some, none-some}
-use Rattle.pc_core.specs.declared.nodes.Node.{Node}
-use Rattle.pc_core.specs.declared.nodes.NodeKind.{NodeKind}
+use Rattle.std.proofs.{Common.{ap, sym, subst, ◌∙◌}, lemmas.Option.{same_Some, none-some}}
+use Rattle.pc_core.specs.{declared.nodes.Node.Node, declared.nodes.NodeKind.NodeKind, CoreData.CoreData}
 use Rattle.pc_core.specs.declared.nodes.NodeKind.TheVariants as node
-use Rattle.pc_core.specs.CoreData.{CoreData}
-use Rattle.pc_lists.proofs.Options.{bind_some}
-use Rattle.pc_masks.specs.declared.mask.Mask.{Mask}
+use Rattle.pc_base.proofs.Options.{bind_some}
+use Rattle.pc_masks.specs.{declared.mask.Mask.Mask, Masks.{IsInMask, with_number}, MaskLaws.{without_number_bits, with_number_bits}}
 use Rattle.pc_ann.specs.declared.annotation.Rule.TheVariants as rule
-use Rattle.pc_masks.specs.Masks.{IsInMask, with_number}
-use Rattle.pc_masks.specs.MaskLaws.{without_number_bits, with_number_bits}
-use Rattle.pc_rules.specs.declared.said.Said.{Said}
-use Rattle.pc_rules.specs.Parts.{through, one_child, type_of, last_child}
+use Rattle.pc_rules.specs.{declared.said.Said.Said, Parts.{through, one_child, type_of, last_child}, Values.defines, Control.{without_definition, without_item, without_items}, Rules.{says, said_by}, Statements.{RulesDetermine, ConsumeTakesOut, DefinePutsIn, SeqTakesOut}}
 use Rattle.pc_valid.specs.Words.{Masks, before, Defines}
-use Rattle.pc_rules.specs.Values.{defines}
-use Rattle.pc_rules.proofs.ByNumber.{slot_of, used, defined}
-use Rattle.pc_rules.proofs.Bridge.{by_number}
-use Rattle.pc_rules.specs.Control.{without_definition, without_item, without_items}
-use Rattle.pc_rules.specs.Rules.{says, said_by}
-use Rattle.pc_rules.specs.Statements.{RulesDetermine, ConsumeTakesOut, DefinePutsIn, SeqTakesOut}
+use Rattle.pc_rules.proofs.{ByNumber.{slot_of, used, defined}, Bridge.by_number}
 
 pub rules_determine : RulesDetermine
 rules_determine core ann x a b r m p q =

@@ -1,35 +1,19 @@
 -- A step between the computed rules and the records of `pc_valid`: the same records, in terms of what the rules
 -- compute.
 use Rattle.std.specs.Prelude.{◌≡◌, ◌⊎◌, ℕ, ◌+◌, true, false, List, [], ◌∷◌, ◌++◌, ◌-◌, length, codes, Option, Some, None, slice_get}
-use Rattle.pc_caps.specs.Tables.{view, sendable, sendable_form, plain, unalias, taken}
-use Rattle.pc_caps.specs.Computed.{fits, may_write}
-use Rattle.pc_caps.specs.declared.capability.Cap.{Cap}
+use Rattle.pc_caps.specs.{Tables.{view, sendable, sendable_form, plain, unalias, taken}, Computed.{fits, may_write}, declared.capability.Cap.Cap, declared.capability.Form.Form}
 use Rattle.pc_caps.specs.declared.capability.Cap.TheVariants as cap
-use Rattle.pc_caps.specs.declared.capability.Form.{Form}
 use Rattle.pc_caps.specs.declared.capability.Form.TheVariants as form
-use Rattle.pc_tree.specs.declared.kinds.Op.{Op}
-use Rattle.pc_tree.specs.Kinds.{none_entity, u64_entity, bool_entity, string_entity}
-use Rattle.pc_core.specs.declared.declarations.FieldInfo.{FieldInfo}
-use Rattle.pc_core.specs.declared.declarations.Method.{Method}
+use Rattle.pc_tree.specs.{declared.kinds.Op.Op, Kinds.{none_entity, u64_entity, bool_entity, string_entity}}
+use Rattle.pc_core.specs.{declared.declarations.FieldInfo.FieldInfo, declared.declarations.Method.Method, declared.declarations.ParamInfo.ParamInfo, declared.nodes.Slot.Slot, declared.nodes.Node.Node, declared.nodes.NodeKind.NodeKind, CoreData.{CoreData, method_named}}
 use Rattle.pc_core.specs.declared.declarations.MethodKind.TheVariants as method
-use Rattle.pc_core.specs.declared.declarations.ParamInfo.{ParamInfo}
-use Rattle.pc_core.specs.declared.nodes.Slot.{Slot}
 use Rattle.pc_core.specs.declared.nodes.SlotKind.TheVariants as slot_kind
-use Rattle.pc_core.specs.declared.nodes.Node.{Node}
-use Rattle.pc_core.specs.declared.nodes.NodeKind.{NodeKind}
 use Rattle.pc_core.specs.declared.nodes.NodeKind.TheVariants as node
-use Rattle.pc_core.specs.CoreData.{CoreData, method_named}
-use Rattle.pc_ann.specs.declared.annotation.Note.{Note}
-use Rattle.pc_ann.specs.declared.annotation.Rule.{Rule}
+use Rattle.pc_ann.specs.{declared.annotation.Note.Note, declared.annotation.Rule.Rule}
 use Rattle.pc_ann.specs.declared.annotation.Rule.TheVariants as rule
 use Rattle.pc_masks.specs.Masks.{IsInMask, with_number, without_number, within, first}
-use Rattle.pc_rules.specs.Parts.{slot_of, goes_to, readable, lower, constructs, full}
+use Rattle.pc_rules.specs.{Parts.{slot_of, goes_to, readable, lower, constructs, full}, Values.{defined_type, old_value}, Fields.{field_of, own_field, own_old}, Calls.recovered_result, Operators.{is_arithmetic, is_comparison, is_equality, is_add, is_xor, meet_masks}, Control.{without_items, joined, recovered, start_set}}
 use Rattle.pc_valid.specs.Words.{Ty, Masks, Slots, before, masks_after, place}
-use Rattle.pc_rules.specs.Values.{defined_type, old_value}
-use Rattle.pc_rules.specs.Fields.{field_of, own_field, own_old}
-use Rattle.pc_rules.specs.Calls.{recovered_result}
-use Rattle.pc_rules.specs.Operators.{is_arithmetic, is_comparison, is_equality, is_add, is_xor, meet_masks}
-use Rattle.pc_rules.specs.Control.{without_items, joined, recovered, start_set}
 
 -- ---- words
 

@@ -1,40 +1,20 @@
 -- The computed rules conclude what the records of the rules require, in both directions: values, slots, fields and
 -- operators.
 use Rattle.std.specs.Prelude.{◌≡◌, ◌⊎◌, ◌↔◌, ℕ, Bool, true, false, cond, ◌&&◌, ◌||◌, not, nat_eq, List, [], ◌∷◌, Option, Some, None, slice_get, refl}
-use Rattle.std.proofs.Common.{inl, inr, ap, sym, subst, ◌∙◌}
-use Rattle.std.proofs.lemmas.Option.{same_Some, none-some}
-use Rattle.std.proofs.lemmas.Bool.{and_parts, eqb-true, eq-eqb, and_from, or_cases, or_left, or_right}
-use Rattle.pc_caps.specs.Tables.{view, sendable, plain, unalias, taken}
-use Rattle.pc_caps.specs.Computed.{may_write}
-use Rattle.pc_caps.specs.declared.capability.Cap.{Cap}
+use Rattle.std.proofs.{Common.{inl, inr, ap, sym, subst, ◌∙◌}, lemmas.Option.{same_Some, none-some}, lemmas.Bool.{and_parts, eqb-true, eq-eqb, and_from, or_cases, or_left, or_right}}
+use Rattle.pc_caps.specs.{Tables.{view, sendable, plain, unalias, taken}, Computed.may_write, declared.capability.Cap.Cap, declared.capability.Form.Form}
 use Rattle.pc_caps.specs.declared.capability.Cap.TheVariants as cap
-use Rattle.pc_caps.specs.declared.capability.Form.{Form}
 use Rattle.pc_caps.specs.declared.capability.Form.TheVariants as form
-use Rattle.pc_core.specs.declared.declarations.FieldInfo.{FieldInfo}
-use Rattle.pc_core.specs.declared.declarations.Method.{Method}
-use Rattle.pc_core.specs.declared.nodes.Slot.{Slot}
-use Rattle.pc_core.specs.declared.nodes.SlotKind.{SlotKind}
+use Rattle.pc_core.specs.{declared.declarations.FieldInfo.FieldInfo, declared.declarations.Method.Method, declared.nodes.Slot.Slot, declared.nodes.SlotKind.SlotKind, declared.nodes.Node.Node, declared.nodes.NodeKind.NodeKind, CoreData.CoreData}
 use Rattle.pc_core.specs.declared.nodes.SlotKind.TheVariants as slot_kind
-use Rattle.pc_core.specs.declared.nodes.Node.{Node}
-use Rattle.pc_core.specs.declared.nodes.NodeKind.{NodeKind}
 use Rattle.pc_core.specs.declared.nodes.NodeKind.TheVariants as node
-use Rattle.pc_core.specs.CoreData.{CoreData}
-use Rattle.pc_lists.proofs.Options.{bind_some, kept, kept_otherwise, bind_is}
-use Rattle.pc_lists.specs.Lists.{◌>>=◌}
-use Rattle.pc_masks.specs.declared.mask.Mask.{Mask}
+use Rattle.pc_base.proofs.{Options.{bind_some, kept, kept_otherwise, bind_is}, Bools.false_true}
+use Rattle.pc_base.specs.Lists.{◌>>=◌}
+use Rattle.pc_masks.specs.{declared.mask.Mask.Mask, Masks.{has, same, with_number, without_number}}
 use Rattle.pc_ann.specs.declared.annotation.Note.{Note}
-use Rattle.pc_masks.specs.Masks.{has, same, with_number, without_number}
-use Rattle.pc_rules.specs.declared.said.Said.{Said}
-use Rattle.pc_rules.specs.Parts.{says_of, starts, constructs, full, reachable, readable, reads_as, goes_to, slot_of, last_child, through_notes, one_note, two_notes, three_notes, last_note, one_type, types_of, two_types}
+use Rattle.pc_rules.specs.{declared.said.Said.Said, Parts.{says_of, starts, constructs, full, reachable, readable, reads_as, goes_to, slot_of, last_child, through_notes, one_note, two_notes, three_notes, last_note, one_type, types_of, two_types}, Values.{literal_says, this_form, this_says, used, local_says, consume_says, same_cap, same_place, defined_type, defines, defined, define_says, is_var, old_value, assigns, assigned, assign_says}, Fields.{is_this, lacks_fields, own_set, incomplete_in, incomplete, field_of, own_field, field_type, read_says, get_says, own_read_says, getown_says, writes, written_field, old_type, write_says, put_says, value_type, own_old, own_writes, own_write_says, putown_says}, Operators.{both_read_as, value_says, not_says, identity_says, lazy_masks, lazy_says, meet_masks}, Rules.said_by}
 use Rattle.pc_valid.specs.Words.{Ty, Masks, Slots, before, masks_after, place}
-use Rattle.pc_rules.specs.Values.{literal_says, this_form, this_says, used, local_says, consume_says, same_cap, same_place, defined_type, defines, defined, define_says, is_var, old_value, assigns, assigned, assign_says}
-use Rattle.pc_rules.specs.Fields.{is_this, lacks_fields, own_set, incomplete_in, incomplete, field_of, own_field, field_type, read_says, get_says, own_read_says, getown_says, writes, written_field, old_type, write_says, put_says, value_type, own_old, own_writes, own_write_says, putown_says}
-use Rattle.pc_rules.specs.Operators.{both_read_as, value_says, not_says, identity_says, lazy_masks, lazy_says, meet_masks}
-use Rattle.pc_rules.specs.Rules.{said_by}
-use Rattle.pc_rules.proofs.Meaning.{OneAfterOther, Reachable, Reads, BothRead, Incomplete, Literal, This, Local, Consume, Define, Assign, Get, GetOwn, Put, PutOwn, Not, Lazy, Identity}
-use Rattle.pc_rules.proofs.Threads.{starts_so}
-use Rattle.pc_lists.proofs.Bools.{false_true}
-use Rattle.pc_rules.proofs.Agreeing.{places_equal}
+use Rattle.pc_rules.proofs.{Meaning.{OneAfterOther, Reachable, Reads, BothRead, Incomplete, Literal, This, Local, Consume, Define, Assign, Get, GetOwn, Put, PutOwn, Not, Lazy, Identity}, Threads.starts_so, Agreeing.places_equal}
 
 -- ---- the conclusion of a rule, in parts
 

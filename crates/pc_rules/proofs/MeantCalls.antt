@@ -1,40 +1,21 @@
 -- The computed rules conclude what the records of the rules require, in both directions: calls, control and every rule.
 use Rattle.std.specs.Prelude.{◌≡◌, ◌↔◌, ◌⊎◌, ℕ, suc, ◌+◌, ◌-◌, Bool, true, cond, ◌&&◌, ◌||◌, not, nat_eq, List, [], ◌∷◌, ◌++◌, length, take, codes, Option, Some, None, slice_get, refl}
-use Rattle.std.proofs.Common.{inl, inr, ap, sym, subst, ◌∙◌, arith}
-use Rattle.std.proofs.lemmas.Option.{same_Some, none-some}
-use Rattle.std.proofs.lemmas.Bool.{and_parts, eqb-true, eq-eqb, and_from, or_cases, or_left, or_right}
-use Rattle.pc_caps.specs.Computed.{fits}
-use Rattle.pc_caps.specs.Tables.{sendable, sendable_form}
-use Rattle.pc_caps.specs.declared.capability.Cap.{Cap}
+use Rattle.std.proofs.{Common.{inl, inr, ap, sym, subst, ◌∙◌, arith}, lemmas.Option.{same_Some, none-some}, lemmas.Bool.{and_parts, eqb-true, eq-eqb, and_from, or_cases, or_left, or_right}}
+use Rattle.pc_caps.specs.{Computed.fits, Tables.{sendable, sendable_form}, declared.capability.Cap.Cap, declared.capability.Form.Form}
 use Rattle.pc_caps.specs.declared.capability.Cap.TheVariants as cap
-use Rattle.pc_caps.specs.declared.capability.Form.{Form}
 use Rattle.pc_caps.specs.declared.capability.Form.TheVariants as form
 use Rattle.pc_tree.specs.declared.kinds.Op.{Op}
-use Rattle.pc_core.specs.declared.declarations.Method.{Method}
-use Rattle.pc_core.specs.declared.declarations.MethodKind.{MethodKind}
+use Rattle.pc_core.specs.{declared.declarations.Method.Method, declared.declarations.MethodKind.MethodKind, declared.declarations.ParamInfo.ParamInfo, declared.nodes.Node.Node, declared.nodes.NodeKind.NodeKind, CoreData.{CoreData, method_named}}
 use Rattle.pc_core.specs.declared.declarations.MethodKind.TheVariants as method
-use Rattle.pc_core.specs.declared.declarations.ParamInfo.{ParamInfo}
-use Rattle.pc_core.specs.declared.nodes.Node.{Node}
-use Rattle.pc_core.specs.declared.nodes.NodeKind.{NodeKind}
 use Rattle.pc_core.specs.declared.nodes.NodeKind.TheVariants as node
-use Rattle.pc_core.specs.CoreData.{CoreData, method_named}
-use Rattle.pc_lists.proofs.Options.{bind_some, kept, bind_is}
-use Rattle.pc_lists.specs.Lists.{◌>>=◌}
-use Rattle.pc_ann.specs.declared.annotation.Note.{Note}
-use Rattle.pc_ann.specs.declared.annotation.Rule.{Rule}
+use Rattle.pc_base.proofs.{Options.{bind_some, kept, bind_is}, Bools.false_true}
+use Rattle.pc_base.specs.Lists.{◌>>=◌}
+use Rattle.pc_ann.specs.{declared.annotation.Note.Note, declared.annotation.Rule.Rule}
 use Rattle.pc_ann.specs.declared.annotation.Rule.TheVariants as rule
 use Rattle.pc_masks.specs.Masks.{same, within, first}
-use Rattle.pc_rules.specs.Parts.{says_of, starts, lower, reads_as, goes_to, through_notes, one_note, two_notes, three_notes, last_note, one_type, two_types}
+use Rattle.pc_rules.specs.{Parts.{says_of, starts, lower, reads_as, goes_to, through_notes, one_note, two_notes, three_notes, last_note, one_type, two_types}, Calls.{argument_goes, arguments_go, arguments, called, is_function, is_behaviour, calls, call_says, new_says, spawn_says, is_isolated, is_lent, argument_sendable, arguments_sendable, lends, recovers, recovered_result, callrecover_says, sends, send_says, same_text, has_text, has_string, builtin_says}, Operators.{is_arithmetic, is_comparison, is_equality, is_add, is_xor, both_read_as, comparable, value_says, arith_says, compare_says, equal_says, join_says, xor_says, meet_masks}, Control.{without_items, seq_says, joined, is_condition, branch_masks, if_says, loop_masks, while_says, recovered, recover_says, start_set, starts_method, gives_result, result_ok, body_says}, Rules.{said_by, rule_says}}
 use Rattle.pc_valid.specs.Words.{Ty, Slots, before, masks_after}
-use Rattle.pc_rules.specs.Calls.{argument_goes, arguments_go, arguments, called, is_function, is_behaviour, calls, call_says, new_says, spawn_says, is_isolated, is_lent, argument_sendable, arguments_sendable, lends, recovers, recovered_result, callrecover_says, sends, send_says, same_text, has_text, has_string, builtin_says}
-use Rattle.pc_rules.specs.Operators.{is_arithmetic, is_comparison, is_equality, is_add, is_xor, both_read_as, comparable, value_says, arith_says, compare_says, equal_says, join_says, xor_says, meet_masks}
-use Rattle.pc_rules.specs.Control.{without_items, seq_says, joined, is_condition, branch_masks, if_says, loop_masks, while_says, recovered, recover_says, start_set, starts_method, gives_result, result_ok, body_says}
-use Rattle.pc_rules.specs.Rules.{said_by, rule_says}
-use Rattle.pc_rules.proofs.Meaning.{OneAfterOther, Reads, BothRead, Go, Sendable, Called, New, Spawn, Call, CallRecover, Send, Builtin, Arith, Compare, Equal, Join, Xor, Seq, If, While, Recover, Body, Means}
-use Rattle.pc_rules.proofs.Threads.{starts_so}
-use Rattle.pc_lists.proofs.Bools.{false_true}
-use Rattle.pc_rules.proofs.Agreeing.{same_mask}
-use Rattle.pc_rules.proofs.Meant.{said_parts, parts_said, is_false, is_starts, mask_same, one_is, two_are, three_are, one_typed, typed_one, reads_so, so_reads, ends, ended, ends_if, ended_if, ends_at, ended_at, tested_means, means_tested, both_read, read_both, literal_means, means_literal, this_means, means_this, local_means, means_local, consume_means, means_consume, define_means, means_define, assign_means, means_assign, get_means, means_get, getown_means, means_getown, put_means, means_put, putown_means, means_putown, not_means, means_not, identity_means, means_identity, lazy_means, means_lazy}
+use Rattle.pc_rules.proofs.{Meaning.{OneAfterOther, Reads, BothRead, Go, Sendable, Called, New, Spawn, Call, CallRecover, Send, Builtin, Arith, Compare, Equal, Join, Xor, Seq, If, While, Recover, Body, Means}, Threads.starts_so, Agreeing.same_mask, Meant.{said_parts, parts_said, is_false, is_starts, mask_same, one_is, two_are, three_are, one_typed, typed_one, reads_so, so_reads, ends, ended, ends_if, ended_if, ends_at, ended_at, tested_means, means_tested, both_read, read_both, literal_means, means_literal, this_means, means_this, local_means, means_local, consume_means, means_consume, define_means, means_define, assign_means, means_assign, get_means, means_get, getown_means, means_getown, put_means, means_put, putown_means, means_putown, not_means, means_not, identity_means, means_identity, lazy_means, means_lazy}}
 
 -- ---- arguments
 

@@ -1,33 +1,19 @@
 -- At most one rule applies to a node, by its kind, its children and the method that it calls.
 use Rattle.std.specs.Prelude.{◌≡◌, ℕ, ◌+◌, Bool, true, false, cond, ◌&&◌, not, List, [], ◌∷◌, take, drop, Option, Some, None, nat_eq, slice_get, slice_range, codes, if◌then◌else◌, refl}
-use Rattle.std.proofs.Common.{inl, inr, ap, sym, ◌∙◌}
-use Rattle.std.proofs.lemmas.Option.{none-some}
-use Rattle.std.proofs.lemmas.Bool.{and_parts, eqb-true, not-true, or_cases}
+use Rattle.std.proofs.{Common.{inl, inr, ap, sym, ◌∙◌}, lemmas.Option.none-some, lemmas.Bool.{and_parts, eqb-true, not-true, or_cases}}
 use Rattle.pc_caps.specs.Computed.{fits}
 use Rattle.pc_tree.specs.declared.kinds.Op.{Op}
 use Rattle.pc_tree.specs.declared.kinds.Op.TheVariants as op
-use Rattle.pc_core.specs.declared.declarations.EntityDef.{EntityDef}
-use Rattle.pc_core.specs.declared.declarations.Method.{Method}
-use Rattle.pc_core.specs.declared.declarations.MethodKind.{MethodKind}
+use Rattle.pc_core.specs.{declared.declarations.EntityDef.EntityDef, declared.declarations.Method.Method, declared.declarations.MethodKind.MethodKind, declared.nodes.Node.Node, declared.nodes.NodeKind.NodeKind, CoreData.{CoreData, own_methods, method_named}, Parts.method_name, Formed.Formed}
 use Rattle.pc_core.specs.declared.declarations.MethodKind.TheVariants as method
-use Rattle.pc_core.specs.declared.nodes.Node.{Node}
-use Rattle.pc_core.specs.declared.nodes.NodeKind.{NodeKind}
 use Rattle.pc_core.specs.declared.nodes.NodeKind.TheVariants as node
-use Rattle.pc_core.specs.CoreData.{CoreData, own_methods, method_named}
-use Rattle.pc_core.specs.Parts.{method_name}
-use Rattle.pc_lists.specs.Lists.{◌>>=◌, place_of}
-use Rattle.pc_lists.proofs.Options.{bind_some, kept, kept_otherwise, bind_is}
-use Rattle.pc_core.specs.Formed.{Formed}
-use Rattle.pc_ann.specs.declared.annotation.Ann.{Ann}
-use Rattle.pc_ann.specs.declared.annotation.Rule.{Rule}
+use Rattle.pc_base.specs.Lists.{◌>>=◌, place_of}
+use Rattle.pc_base.proofs.{Options.{bind_some, kept, kept_otherwise, bind_is}, Bools.false_true}
+use Rattle.pc_ann.specs.{declared.annotation.Ann.Ann, declared.annotation.Rule.Rule}
 use Rattle.pc_ann.specs.declared.annotation.Rule.TheVariants as rule
-use Rattle.pc_rules.specs.declared.said.Said.{Said}
-use Rattle.pc_rules.specs.Parts.{reads_as, readable, through, type_of, one_child, last_child}
+use Rattle.pc_rules.specs.{declared.said.Said.Said, Parts.{reads_as, readable, through, type_of, one_child, last_child}, Calls.{is_function, is_behaviour, is_isolated, is_lent, lends, same_text, has_text, has_string}, Operators.{is_arithmetic, is_comparison, is_equality, is_add, is_xor, both_read_as, comparable}}
 use Rattle.pc_valid.specs.Words.{Ty, Masks}
-use Rattle.pc_rules.specs.Calls.{is_function, is_behaviour, is_isolated, is_lent, lends, same_text, has_text, has_string}
-use Rattle.pc_rules.specs.Operators.{is_arithmetic, is_comparison, is_equality, is_add, is_xor, both_read_as, comparable}
 use Rattle.pc_rules.proofs.ByNumber.{two_types, define_says, body_says, incomplete, read_says, own_read_says, write_says, own_write_says, arguments, arguments_go, arguments_sendable, called, calls, call_says, recovers, callrecover_says, sends, send_says, builtin_says, value_says, says}
-use Rattle.pc_lists.proofs.Bools.{false_true}
 
 -- ---- which one
 

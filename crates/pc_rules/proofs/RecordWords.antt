@@ -1,52 +1,21 @@
 -- The vocabulary of the rules as relations, and how it is computed.
-use Rattle.std.specs.Prelude.{◌≡◌, ◌↔◌, ℕ, zero, suc, ◌+◌, ◌-◌, ◌<◌, ◌≤◌, Bool, true, false, cond, List, [], ◌∷◌, ◌++◌, length, map, Option, Some, None, slice_get, bit_and, min, refl}
-use Rattle.std.proofs.Common.{inl, inr, ap, sym, subst, ◌∙◌, arith}
-use Rattle.std.proofs.lemmas.Option.{same_Some, none-some}
-use Rattle.std.proofs.lemmas.Bool.{and_parts, and_from, eqb-true}
-use Rattle.std.specs.Int.{bit_at}
-use Rattle.std.proofs.lemmas.Nat.Bits.{bit_at_and, same_from_bits}
-use Rattle.pc_caps.specs.Computed.{is_below, fits}
-use Rattle.pc_caps.specs.Closure.{below_iff}
-use Rattle.pc_caps.specs.Tables.{unalias, lift, taken, at}
-use Rattle.pc_caps.specs.declared.capability.Cap.{Cap}
-use Rattle.pc_caps.specs.declared.capability.Form.{Form}
+use Rattle.std.specs.{Prelude.{◌≡◌, ◌↔◌, ℕ, zero, suc, ◌+◌, ◌-◌, ◌<◌, ◌≤◌, Bool, true, false, cond, List, [], ◌∷◌, ◌++◌, length, map, Option, Some, None, slice_get, bit_and, min, refl}, Int.bit_at}
+use Rattle.std.proofs.{Common.{inl, inr, ap, sym, subst, ◌∙◌, arith}, lemmas.Option.{same_Some, none-some}, lemmas.Bool.{and_parts, and_from, eqb-true}, lemmas.Nat.Bits.{bit_at_and, same_from_bits}}
+use Rattle.pc_caps.specs.{Computed.{is_below, fits}, Closure.below_iff, Tables.{unalias, lift, taken, at}, declared.capability.Cap.Cap, declared.capability.Form.Form}
 use Rattle.pc_caps.specs.declared.capability.Form.TheVariants as form
-use Rattle.pc_core.specs.declared.declarations.EntityDef.{EntityDef}
-use Rattle.pc_core.specs.declared.declarations.FieldInfo.{FieldInfo}
-use Rattle.pc_core.specs.declared.declarations.Method.{Method}
-use Rattle.pc_core.specs.declared.declarations.MethodKind.{MethodKind}
+use Rattle.pc_core.specs.{declared.declarations.EntityDef.EntityDef, declared.declarations.FieldInfo.FieldInfo, declared.declarations.Method.Method, declared.declarations.MethodKind.MethodKind, declared.declarations.ParamInfo.ParamInfo, declared.nodes.Slot.Slot, declared.nodes.Node.Node, declared.nodes.NodeKind.NodeKind, CoreData.{CoreData, own_methods, field_named, method_named, IsMethod}, Parts.{field_name, method_name, IsField}, Formed.Formed, Members.{method_among, field_found, field_missed, method_found, method_missed}}
 use Rattle.pc_core.specs.declared.declarations.MethodKind.TheVariants as method
-use Rattle.pc_core.specs.declared.declarations.ParamInfo.{ParamInfo}
-use Rattle.pc_core.specs.declared.nodes.Slot.{Slot}
-use Rattle.pc_core.specs.declared.nodes.Node.{Node}
-use Rattle.pc_core.specs.declared.nodes.NodeKind.{NodeKind}
 use Rattle.pc_core.specs.declared.nodes.NodeKind.TheVariants as node
 use Rattle.pc_tree.specs.declared.kinds.Op.{Op}
 use Rattle.pc_tree.specs.declared.kinds.Op.TheVariants as op
-use Rattle.pc_core.specs.CoreData.{CoreData, own_methods, field_named, method_named, IsMethod}
-use Rattle.pc_core.specs.Parts.{field_name, method_name}
-use Rattle.pc_core.specs.Formed.{Formed}
-use Rattle.pc_core.specs.Parts.{IsField}
-use Rattle.pc_core.specs.Members.{method_among, field_found, field_missed, method_found, method_missed}
-use Rattle.pc_lists.proofs.Gets.{get_below, get_front, get_append, get_map, range_get}
-use Rattle.pc_lists.proofs.Options.{bind_some, bind_is, kept}
-use Rattle.pc_lists.proofs.Bools.{false_true}
-use Rattle.pc_sub.specs.Computed.{is_sub}
-use Rattle.pc_sub.specs.Agreement.{is_sub_iff}
-use Rattle.pc_masks.specs.declared.mask.Mask.{Mask}
+use Rattle.pc_base.proofs.{Gets.{get_below, get_front, get_append, get_map, range_get}, Options.{bind_some, bind_is, kept}, Bools.false_true}
+use Rattle.pc_sub.specs.{Computed.is_sub, Agreement.is_sub_iff}
+use Rattle.pc_masks.specs.{declared.mask.Mask.Mask, Masks.{IsInMask, empty, first, within}, MaskLaws.{within_bits, first_bits, without_number_bits}}
 use Rattle.pc_ann.specs.declared.annotation.Note.{Note}
-use Rattle.pc_masks.specs.Masks.{IsInMask, empty, first, within}
-use Rattle.pc_masks.specs.MaskLaws.{within_bits, first_bits, without_number_bits}
-use Rattle.pc_rules.specs.Parts.{constructs, fields_in, field_count, all_fields, full, goes_to, lower, slot_of}
-use Rattle.pc_rules.specs.Values.{defined_type}
-use Rattle.pc_rules.specs.Fields.{field_of, own_field}
-use Rattle.pc_rules.specs.Operators.{is_arithmetic, is_comparison, is_equality, is_add, is_xor}
-use Rattle.pc_rules.specs.Checks.{is_else}
-use Rattle.pc_rules.specs.Control.{without_definition, without_item, without_items, joined, recovered, start_set}
+use Rattle.pc_rules.specs.{Parts.{constructs, fields_in, field_count, all_fields, full, goes_to, lower, slot_of}, Values.defined_type, Fields.{field_of, own_field}, Operators.{is_arithmetic, is_comparison, is_equality, is_add, is_xor}, Checks.is_else, Control.{without_definition, without_item, without_items, joined, recovered, start_set}}
 use Rattle.pc_rules.proofs.Lawful.{items_bits}
 use Rattle.pc_rules.proofs.Meaning as mirror
-use Rattle.pc_valid.specs.Valid.{arithmetic, comparisons, equalities, IsOneOf}
-use Rattle.pc_valid.specs.Words.{Masks, masks_after, OneAfterOther, Sendable, Defines, Ty, Place, FormFits, IsLower, GoesTo, ReadsValue, Joined, to_second, to_first, to_none, no_first, no_second, Recovers, as_lifted, as_written, IsConstructor, AllSet, StartsSet, Slots, SlotOf, DefinedAs, FieldOf, Called, Go, Incomplete}
+use Rattle.pc_valid.specs.{Valid.{arithmetic, comparisons, equalities, IsOneOf}, Words.{Masks, masks_after, OneAfterOther, Sendable, Defines, Ty, Place, FormFits, IsLower, GoesTo, ReadsValue, Joined, to_second, to_first, to_none, no_first, no_second, Recovers, as_lifted, as_written, IsConstructor, AllSet, StartsSet, Slots, SlotOf, DefinedAs, FieldOf, Called, Go, Incomplete}}
 
 -- ---- types
 

@@ -1,36 +1,21 @@
 -- Each record of the rules, and its counterpart in terms of what the rules compute.
 use Rattle.std.specs.Prelude.{◌≡◌, ◌⊎◌, ◌↔◌, ℕ, Bool, true, false, List, Option, Some, None, refl}
-use Rattle.std.proofs.Common.{inl, inr, ap, sym, subst, ◌∙◌}
-use Rattle.std.proofs.lemmas.Option.{same_Some}
-use Rattle.std.proofs.lemmas.Bool.{and_parts, and_from}
-use Rattle.pc_caps.specs.Tables.{unalias, enters, sendable_form}
-use Rattle.pc_caps.specs.Computed.{fits}
-use Rattle.pc_caps.specs.declared.capability.Cap.{Cap}
-use Rattle.pc_caps.specs.declared.capability.Form.{Form}
+use Rattle.std.proofs.{Common.{inl, inr, ap, sym, subst, ◌∙◌}, lemmas.Option.same_Some, lemmas.Bool.{and_parts, and_from}}
+use Rattle.pc_caps.specs.{Tables.{unalias, enters, sendable_form}, Computed.fits, declared.capability.Cap.Cap, declared.capability.Form.Form}
 use Rattle.pc_caps.specs.declared.capability.Form.TheVariants as form
 use Rattle.pc_tree.specs.declared.kinds.Op.{Op}
 use Rattle.pc_tree.specs.declared.kinds.Op.TheVariants as op
-use Rattle.pc_core.specs.declared.declarations.Method.{Method}
-use Rattle.pc_core.specs.declared.nodes.Node.{Node}
-use Rattle.pc_core.specs.declared.nodes.NodeKind.{NodeKind}
+use Rattle.pc_core.specs.{declared.declarations.Method.Method, declared.nodes.Node.Node, declared.nodes.NodeKind.NodeKind, CoreData.CoreData, Formed.Formed}
 use Rattle.pc_core.specs.declared.nodes.NodeKind.TheVariants as node
-use Rattle.pc_core.specs.CoreData.{CoreData}
-use Rattle.pc_core.specs.Formed.{Formed}
-use Rattle.pc_lists.proofs.Bools.{false_true}
-use Rattle.pc_ann.specs.declared.annotation.Note.{Note}
-use Rattle.pc_ann.specs.declared.annotation.Rule.{Rule}
+use Rattle.pc_base.proofs.Bools.{false_true}
+use Rattle.pc_ann.specs.{declared.annotation.Note.Note, declared.annotation.Rule.Rule}
 use Rattle.pc_ann.specs.declared.annotation.Rule.TheVariants as rule
-use Rattle.pc_masks.specs.declared.mask.Mask.{Mask}
-use Rattle.pc_masks.specs.Masks.{has}
-use Rattle.pc_masks.specs.MaskLaws.{within_bits}
-use Rattle.pc_rules.specs.Operators.{is_equality}
-use Rattle.pc_rules.specs.Control.{without_items}
+use Rattle.pc_masks.specs.{declared.mask.Mask.Mask, Masks.has, MaskLaws.within_bits}
+use Rattle.pc_rules.specs.{Operators.is_equality, Control.without_items, Statements.SaysWhatIsMeant}
 use Rattle.pc_rules.proofs.Meaning as mirror
-use Rattle.pc_rules.proofs.MeantCalls.{rules_are_records}
+use Rattle.pc_rules.proofs.{MeantCalls.rules_are_records, RecordWords.{order_iff, sendable_iff, arithmetic_iff, comparison_iff, equality_iff, add_iff, xor_iff, ends_to, to_ends, lower_iff, fits_iff, goes_iff, reads_iff, choice, chosen, joined_to, to_joined, recovers_to, to_recovers, all_set_iff, starts_to, to_starts, slot_to, to_slot, defined_to, to_defined, field_to, to_field, own_at, at_own, gives_up, go_to, to_go, called_to, to_called, incomplete_to, to_incomplete}}
 use Rattle.pc_valid.specs.Words.{Masks, masks_after, Ty, ReadsValue, Slots, before, AllSet}
 use Rattle.pc_valid.specs.Valid as spec
-use Rattle.pc_rules.specs.Statements.{SaysWhatIsMeant}
-use Rattle.pc_rules.proofs.RecordWords.{order_iff, sendable_iff, arithmetic_iff, comparison_iff, equality_iff, add_iff, xor_iff, ends_to, to_ends, lower_iff, fits_iff, goes_iff, reads_iff, choice, chosen, joined_to, to_joined, recovers_to, to_recovers, all_set_iff, starts_to, to_starts, slot_to, to_slot, defined_to, to_defined, field_to, to_field, own_at, at_own, gives_up, go_to, to_go, called_to, to_called, incomplete_to, to_incomplete}
 
 either_reads : (d e : ℕ) (o : Option Ty) → (mirror.Reads d o ⊎ mirror.Reads e o) ↔ (ReadsValue d o ⊎ ReadsValue e o)
 either_reads d e o = (

@@ -1,16 +1,9 @@
 -- The slots of a method: each has a written type, or is that of a local, which is defined once.
 use Rattle.std.specs.Prelude.{◌≡◌, ◌⊎◌, ℕ, zero, suc, ◌+◌, ◌-◌, ◌<◌, ◌∷◌, ◌++◌, map, length, Some, slice_get}
-use Rattle.std.proofs.Common.{inl, inr, ap, sym, subst, ◌∙◌, arith}
-use Rattle.std.proofs.lemmas.List.{length-map}
-use Rattle.std.proofs.lemmas.Option.{same_Some, none-some}
+use Rattle.std.proofs.{Common.{inl, inr, ap, sym, subst, ◌∙◌, arith}, lemmas.List.length-map, lemmas.Option.{same_Some, none-some}}
 use Rattle.pc_caps.specs.declared.capability.Cap.{Cap}
-use Rattle.pc_core.specs.declared.declarations.Method.{Method}
-use Rattle.pc_core.specs.declared.nodes.Slot.{Slot}
-use Rattle.pc_core.specs.CoreData.{CoreData, own_slots}
-use Rattle.pc_core.specs.Methods.{LocalFits, SlotsFit}
-use Rattle.pc_core.specs.Entities.{this_slot, param_slot}
-use Rattle.pc_lists.proofs.Gets.{map_get, get_range, range_get, append_get}
-use Rattle.pc_core.specs.Formed.{Formed}
+use Rattle.pc_core.specs.{declared.declarations.Method.Method, declared.nodes.Slot.Slot, CoreData.{CoreData, own_slots}, Methods.{LocalFits, SlotsFit}, Entities.{this_slot, param_slot}, Formed.Formed}
+use Rattle.pc_base.proofs.Gets.{map_get, get_range, range_get, append_get}
 
 abbrev pub SlotKnown : CoreData → ℕ → ℕ → Slot → Type 0
 SlotKnown core m s y = ((ty : ℕ × Cap) × (y.written ≡ Some ty)) ⊎ LocalFits core m s y

@@ -1,34 +1,19 @@
 -- If a rule applies to a node, its children are evaluated one after the other, except for the branches of an `if`,
 -- which both follow the condition.
 use Rattle.std.specs.Prelude.{◌≡◌, ℕ, zero, suc, Bool, true, false, cond, List, [], ◌∷◌, length, Option, Some, None, slice_get}
-use Rattle.std.proofs.Common.{ap, sym, subst, ◌∙◌}
-use Rattle.std.proofs.lemmas.Option.{same_Some, none-some}
-use Rattle.std.proofs.lemmas.Bool.{and_parts, eqb-true}
+use Rattle.std.proofs.{Common.{ap, sym, subst, ◌∙◌}, lemmas.Option.{same_Some, none-some}, lemmas.Bool.{and_parts, eqb-true}}
 use Rattle.pc_caps.specs.Tables.{view}
 use Rattle.pc_caps.specs.declared.capability.Form.TheVariants as form
-use Rattle.pc_core.specs.declared.declarations.Method.{Method}
-use Rattle.pc_core.specs.declared.nodes.Node.{Node}
-use Rattle.pc_core.specs.declared.nodes.NodeKind.{NodeKind}
+use Rattle.pc_core.specs.{declared.declarations.Method.Method, declared.nodes.Node.Node, declared.nodes.NodeKind.NodeKind, CoreData.CoreData, Nodes.HasArity}
 use Rattle.pc_core.specs.declared.nodes.NodeKind.TheVariants as node
-use Rattle.pc_core.specs.CoreData.{CoreData}
-use Rattle.pc_lists.specs.Lists.{◌>>=◌}
-use Rattle.pc_lists.proofs.Options.{bind_some, kept, kept_otherwise, bind_is}
-use Rattle.pc_core.specs.Nodes.{HasArity}
-use Rattle.pc_masks.specs.declared.mask.Mask.{Mask}
-use Rattle.pc_ann.specs.declared.annotation.Note.{Note}
-use Rattle.pc_ann.specs.declared.annotation.Ann.{Ann}
-use Rattle.pc_ann.specs.declared.annotation.Rule.{Rule}
+use Rattle.pc_base.specs.Lists.{◌>>=◌}
+use Rattle.pc_base.proofs.{Options.{bind_some, kept, kept_otherwise, bind_is}, Bools.false_true, Cuts.without_length}
+use Rattle.pc_masks.specs.{declared.mask.Mask.Mask, Masks.same}
+use Rattle.pc_ann.specs.{declared.annotation.Note.Note, declared.annotation.Ann.Ann, declared.annotation.Rule.Rule}
 use Rattle.pc_ann.specs.declared.annotation.Rule.TheVariants as rule
-use Rattle.pc_masks.specs.Masks.{same}
-use Rattle.pc_rules.specs.declared.said.Said.{Said}
-use Rattle.pc_rules.specs.Parts.{starts, through, type_of, one_child, last_child}
+use Rattle.pc_rules.specs.{declared.said.Said.Said, Parts.{starts, through, type_of, one_child, last_child}, Values.{defines, assigns}, Fields.{own_field, field_type, old_type}, Control.recovered}
 use Rattle.pc_valid.specs.Words.{Ty, Masks, before, masks_after}
-use Rattle.pc_rules.specs.Values.{defines, assigns}
-use Rattle.pc_rules.specs.Fields.{own_field, field_type, old_type}
-use Rattle.pc_rules.specs.Control.{recovered}
 use Rattle.pc_rules.proofs.ByNumber.{two_children, three_children, two_types, slot_of, defined, assigned, incomplete, read_says, own_read_says, write_says, value_type, own_write_says, called, value_says, lazy_masks, branch_masks, loop_masks, says, own_seen}
-use Rattle.pc_lists.proofs.Bools.{false_true}
-use Rattle.pc_lists.proofs.Cuts.{without_length}
 
 -- The children are evaluated one after the other.
 abbrev pub Threaded : Ann → List ℕ → Masks → Type 0

@@ -1,32 +1,15 @@
 -- At most one annotation of a core is valid.
 use Rattle.std.specs.Prelude.{◌≡◌, ◌⊎◌, ℕ, zero, suc, ◌+◌, ◌-◌, ◌<◌, ◌≤◌, false, List, [], ◌∷◌, map, length, Option, Some, None, slice_get, refl}
-use Rattle.std.proofs.Common.{inl, inr, ap, sym, subst, ◌∙◌, arith}
-use Rattle.std.proofs.lemmas.Option.{same_Some, none-some}
-use Rattle.pc_lists.proofs.Gets.{get_below, get_within, map_get}
-use Rattle.pc_core.specs.declared.declarations.Method.{Method}
-use Rattle.pc_core.specs.declared.nodes.Node.{Node}
-use Rattle.pc_core.specs.declared.nodes.NodeKind.{NodeKind}
+use Rattle.std.proofs.{Common.{inl, inr, ap, sym, subst, ◌∙◌, arith}, lemmas.Option.{same_Some, none-some}}
+use Rattle.pc_base.proofs.{Gets.{get_below, get_within, map_get}, Ranges.run_around, Options.{bind_some, kept}}
+use Rattle.pc_core.specs.{declared.declarations.Method.Method, declared.nodes.Node.Node, declared.nodes.NodeKind.NodeKind, CoreData.{CoreData, node_end}, Methods.BodyFits, Nodes.HasArity, Formed.Formed}
 use Rattle.pc_core.specs.declared.nodes.NodeKind.TheVariants as node
-use Rattle.pc_core.specs.CoreData.{CoreData, node_end}
-use Rattle.pc_lists.specs.Lists.{Follow, Each}
-use Rattle.pc_core.specs.Methods.{BodyFits}
-use Rattle.pc_core.specs.Nodes.{HasArity}
-use Rattle.pc_core.specs.Formed.{Formed}
-use Rattle.pc_lists.proofs.Ranges.{run_around}
-use Rattle.pc_lists.proofs.Options.{bind_some, kept}
-use Rattle.pc_ann.specs.declared.annotation.Note.{Note}
-use Rattle.pc_ann.specs.declared.annotation.Ann.{Ann}
+use Rattle.pc_base.specs.Lists.{Follow, Each}
+use Rattle.pc_ann.specs.{declared.annotation.Note.Note, declared.annotation.Ann.Ann}
 use Rattle.pc_masks.specs.Masks.{same}
-use Rattle.pc_rules.specs.Parts.{starts, through}
+use Rattle.pc_rules.specs.{Parts.{starts, through}, Rules.{said_by, IsSaid}, Checks.Checks, Trees.{Tree, Forest, tree, empty, more, body_tree, forest_below}, Statements.OneValid}
 use Rattle.pc_valid.specs.Words.{Masks, before, masks_after}
-use Rattle.pc_rules.specs.Rules.{said_by, IsSaid}
-use Rattle.pc_rules.specs.Checks.{Checks}
-use Rattle.pc_rules.proofs.Derivations.{to_valid}
-use Rattle.pc_rules.specs.Trees.{Tree, Forest, tree, empty, more, body_tree, forest_below}
-use Rattle.pc_rules.specs.Statements.{OneValid}
-use Rattle.pc_rules.proofs.Bridge.{meets_threads, meets_if_threads}
-use Rattle.pc_rules.proofs.Threads.{Threaded, then_way, else_way, is_branch, starts_so, first_starts, next_starts}
-use Rattle.pc_rules.proofs.Agreeing.{body_starts, body_method, body_says_at, Agree, known_alike, node_step}
+use Rattle.pc_rules.proofs.{Derivations.to_valid, Bridge.{meets_threads, meets_if_threads}, Threads.{Threaded, then_way, else_way, is_branch, starts_so, first_starts, next_starts}, Agreeing.{body_starts, body_method, body_says_at, Agree, known_alike, node_step}}
 
 lists_equal : {T : Type 0} → (xs ys : List T) → length xs ≡ length ys → ((k : ℕ) → k < length xs → slice_get xs k ≡ slice_get ys k) → xs ≡ ys
 lists_equal [] [] e h = refl

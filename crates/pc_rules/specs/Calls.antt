@@ -1,11 +1,11 @@
 -- Rules for constructors, calls and messages.
 use Rattle.std.specs.Prelude.{ℕ, ◌-◌, Bool, true, false, ◌&&◌, ◌||◌, not, List, [], ◌∷◌, length, take, Option, Some, None, nat_eq, slice_get, codes, if◌then◌else◌}
-use Rattle.pc_caps.specs.{Computed.fits, Tables.sendable, Tables.sendable_form, declared.capability.Cap.Cap, declared.capability.Form.Form}
-use Rattle.pc_core.specs.{CoreData.method_named, CoreData.CoreData, declared.declarations.Method.Method, declared.declarations.MethodKind.MethodKind, declared.declarations.ParamInfo.ParamInfo}
-use Rattle.pc_rules.specs.{Parts.says_of, Parts.goes_to, Parts.reads_as, Parts.through_notes, Parts.one_type, Parts.last_note, declared.said.Said.Said}
+use Rattle.pc_caps.specs.{Computed.fits, Tables.{sendable, sendable_form}, declared.capability.Cap.Cap, declared.capability.Form.Form}
+use Rattle.pc_core.specs.{CoreData.{method_named, CoreData}, declared.declarations.Method.Method, declared.declarations.MethodKind.MethodKind, declared.declarations.ParamInfo.ParamInfo}
+use Rattle.pc_rules.specs.{Parts.{says_of, goes_to, reads_as, through_notes, one_type, last_note}, declared.said.Said.Said}
 use Rattle.pc_valid.specs.Words.{Ty, Masks}
 use Rattle.pc_tree.specs.Kinds.{none_entity, u64_entity, bool_entity, string_entity}
-use Rattle.pc_lists.specs.Lists.{◌>>=◌}
+use Rattle.pc_base.specs.Lists.{◌>>=◌}
 use Rattle.pc_ann.specs.declared.annotation.Note.{Note}
 use Rattle.pc_caps.specs.declared.capability.Cap.TheVariants as cap
 use Rattle.pc_caps.specs.declared.capability.Form.TheVariants as form

@@ -3,10 +3,10 @@
 use Rattle.std.specs.Prelude.{◌≡◌, ℕ, zero, suc, ◌+◌, ◌<◌, ◌≤◌, Bool, true, false, length, Some, None, slice_get}
 use Rattle.pc_ann.specs.{declared.annotation.Rule.Rule, declared.annotation.Note.Note, declared.annotation.Ann.Ann}
 use Rattle.pc_sub.specs.Declarations.{DeclOk}
-use Rattle.pc_rules.specs.{Parts.constructs, Parts.full, Control.start_set, Rules.says, Rules.IsSaid, Rules.NoteIsSaid}
-use Rattle.pc_valid.specs.{Words.Masks, Words.Slots, Words.before, Words.masks_after, Valid.KeepsWritten, NoRule.DifferAt}
+use Rattle.pc_rules.specs.{Parts.{constructs, full}, Control.start_set, Rules.{says, IsSaid, NoteIsSaid}}
+use Rattle.pc_valid.specs.{Words.{Masks, Slots, before, masks_after}, Valid.KeepsWritten, NoRule.DifferAt}
 use Rattle.pc_core.specs.{declared.declarations.Method.Method, declared.nodes.Node.Node, declared.nodes.NodeKind.NodeKind, CoreData.CoreData}
-use Rattle.pc_lists.specs.Lists.{Each}
+use Rattle.pc_base.specs.Lists.{Each}
 use Rattle.pc_masks.specs.Masks.{first}
 use Rattle.pc_core.specs.declared.nodes.NodeKind.TheVariants as node
 

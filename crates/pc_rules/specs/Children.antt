@@ -1,7 +1,7 @@
 -- As in the code: the notes of a node's children, in order, held together, or each found by its number among all notes.
 use Rattle.std.specs.Prelude.{ℕ, Bool, true, false, ◌&&◌, ◌<◌, List, [], ◌∷◌, length, Option, Some, None, slice_get}
 use Rattle.pc_core.specs.{declared.declarations.ParamInfo.ParamInfo, CoreData.CoreData}
-use Rattle.pc_lists.specs.Lists.{Each, ◌>>=◌}
+use Rattle.pc_base.specs.Lists.{Each, ◌>>=◌}
 use Rattle.pc_ann.specs.declared.annotation.Note.{Note}
 use Rattle.pc_valid.specs.Words.{Ty}
 use Rattle.pc_rules.specs.Calls.{argument_goes, argument_sendable}

@@ -1,12 +1,12 @@
 -- Rules for sequences, branches, loops, recover and bodies.
 use Rattle.std.specs.Prelude.{ℕ, ◌+◌, Bool, true, false, ◌&&◌, List, [], ◌∷◌, length, Option, Some, None, slice_get, if◌then◌else◌}
-use Rattle.pc_caps.specs.{Computed.fits, Tables.unalias, Tables.lift, declared.capability.Cap.Cap, declared.capability.Form.Form}
-use Rattle.pc_rules.specs.{Parts.says_of, Parts.reads_as, Parts.lower, Parts.constructs, Parts.all_fields, Parts.starts, Parts.through_notes, Parts.one_note, Parts.one_type, Parts.two_notes, Parts.three_notes, Parts.last_note, Operators.meet_masks, declared.said.Said.Said}
+use Rattle.pc_caps.specs.{Computed.fits, Tables.{unalias, lift}, declared.capability.Cap.Cap, declared.capability.Form.Form}
+use Rattle.pc_rules.specs.{Parts.{says_of, reads_as, lower, constructs, all_fields, starts, through_notes, one_note, one_type, two_notes, three_notes, last_note}, Operators.meet_masks, declared.said.Said.Said}
 use Rattle.pc_valid.specs.Words.{Ty, Masks, masks_after}
 use Rattle.pc_tree.specs.Kinds.{none_entity, bool_entity}
 use Rattle.pc_core.specs.{declared.declarations.Method.Method, declared.declarations.MethodKind.MethodKind, declared.nodes.Node.Node, declared.nodes.NodeKind.NodeKind, CoreData.CoreData}
-use Rattle.pc_lists.specs.Lists.{◌>>=◌}
-use Rattle.pc_masks.specs.{declared.mask.Mask.Mask, Masks.empty, Masks.first, Masks.without_number, Masks.within, Masks.same}
+use Rattle.pc_base.specs.Lists.{◌>>=◌}
+use Rattle.pc_masks.specs.{declared.mask.Mask.Mask, Masks.{empty, first, without_number, within, same}}
 use Rattle.pc_ann.specs.declared.annotation.Note.{Note}
 use Rattle.pc_caps.specs.declared.capability.Form.TheVariants as form
 use Rattle.pc_core.specs.declared.declarations.MethodKind.TheVariants as method

@@ -5,9 +5,10 @@
 --       new create(env: Env) =>
 --         let a: C iso = C
 use Rattle.std.specs.Prelude.{◌≡◌, ℕ, List, [], ◌∷◌, Option, Some, None, slice_get, codes}
-use Rattle.pc_caps.specs.{declared.capability.Form.Form, declared.span.Span.Span}
+use Rattle.pc_base.specs.declared.span.Span.{Span}
+use Rattle.pc_caps.specs.declared.capability.Form.{Form}
 use Rattle.pc_tree.specs.Kinds.{none_entity, env_entity}
-use Rattle.pc_core.specs.{declared.declarations.EntityDef.EntityDef, declared.declarations.Method.Method, declared.nodes.Node.Node, declared.nodes.NodeKind.NodeKind, CoreData.CoreData, Entities.built_in, Entities.built_in_value, Entities.out_field, Entities.print_method}
+use Rattle.pc_core.specs.{declared.declarations.EntityDef.EntityDef, declared.declarations.Method.Method, declared.nodes.Node.Node, declared.nodes.NodeKind.NodeKind, CoreData.CoreData, Entities.{built_in, built_in_value, out_field, print_method}}
 use Rattle.pc_ann.specs.{declared.annotation.Note.Note, declared.annotation.Ann.Ann, declared.annotation.Rule.Rule}
 use Rattle.pc_rules.specs.Rules.{IsSaid, NoteIsSaid}
 use Rattle.pc_caps.specs.declared.capability.Cap.TheVariants as cap

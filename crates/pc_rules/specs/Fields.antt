@@ -1,11 +1,11 @@
 -- Rules for reading and writing fields.
 use Rattle.std.specs.Prelude.{ℕ, Bool, true, false, ◌&&◌, ◌||◌, not, List, Option, Some, None, nat_eq, slice_get, if◌then◌else◌}
-use Rattle.pc_caps.specs.{Tables.view, Tables.taken, Computed.may_write, declared.capability.Form.Form}
-use Rattle.pc_core.specs.{CoreData.field_named, CoreData.CoreData, declared.declarations.FieldInfo.FieldInfo, declared.declarations.Method.Method, declared.nodes.Node.Node, declared.nodes.NodeKind.NodeKind}
-use Rattle.pc_rules.specs.{Parts.says_of, Parts.goes_to, Parts.constructs, Parts.full, Parts.through_notes, Parts.one_type, Parts.two_notes, Parts.two_types, Parts.last_note, Parts.last_child, declared.said.Said.Said}
+use Rattle.pc_caps.specs.{Tables.{view, taken}, Computed.may_write, declared.capability.Form.Form}
+use Rattle.pc_core.specs.{CoreData.{field_named, CoreData}, declared.declarations.FieldInfo.FieldInfo, declared.declarations.Method.Method, declared.nodes.Node.Node, declared.nodes.NodeKind.NodeKind}
+use Rattle.pc_rules.specs.{Parts.{says_of, goes_to, constructs, full, through_notes, one_type, two_notes, two_types, last_note, last_child}, declared.said.Said.Said}
 use Rattle.pc_valid.specs.Words.{Ty, Masks, place}
-use Rattle.pc_lists.specs.Lists.{◌>>=◌}
-use Rattle.pc_masks.specs.{declared.mask.Mask.Mask, Masks.has, Masks.with_number}
+use Rattle.pc_base.specs.Lists.{◌>>=◌}
+use Rattle.pc_masks.specs.{declared.mask.Mask.Mask, Masks.{has, with_number}}
 use Rattle.pc_ann.specs.declared.annotation.Note.{Note}
 use Rattle.pc_caps.specs.declared.capability.Form.TheVariants as form
 use Rattle.pc_core.specs.declared.nodes.NodeKind.TheVariants as node

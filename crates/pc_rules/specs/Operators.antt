@@ -1,9 +1,9 @@
 -- Rules for operators.
 use Rattle.std.specs.Prelude.{ℕ, Bool, true, false, ◌&&◌, ◌||◌, List, Option, Some, None, if◌then◌else◌}
-use Rattle.pc_tree.specs.{declared.kinds.Op.Op, Kinds.u64_entity, Kinds.bool_entity, Kinds.string_entity}
-use Rattle.pc_rules.specs.{Parts.says_of, Parts.reads_as, Parts.starts, Parts.through_notes, Parts.one_type, Parts.two_notes, Parts.two_types, declared.said.Said.Said}
+use Rattle.pc_tree.specs.{declared.kinds.Op.Op, Kinds.{u64_entity, bool_entity, string_entity}}
+use Rattle.pc_rules.specs.{Parts.{says_of, reads_as, starts, through_notes, one_type, two_notes, two_types}, declared.said.Said.Said}
 use Rattle.pc_valid.specs.Words.{Ty, Masks, masks_after}
-use Rattle.pc_lists.specs.Lists.{◌>>=◌}
+use Rattle.pc_base.specs.Lists.{◌>>=◌}
 use Rattle.pc_ann.specs.declared.annotation.Note.{Note}
 use Rattle.pc_masks.specs.Masks.{meet}
 use Rattle.pc_tree.specs.declared.kinds.Op.TheVariants as op

@@ -1,10 +1,10 @@
 -- What the rules are about: slots, masks, the notes of children and their types.
 use Rattle.std.specs.Prelude.{ℕ, ◌+◌, ◌-◌, Bool, true, false, ◌&&◌, ◌||◌, List, [], ◌∷◌, length, Option, Some, None, nat_eq, slice_get, if◌then◌else◌}
-use Rattle.pc_caps.specs.{Computed.is_below, Computed.fits, Tables.sendable, declared.capability.Cap.Cap, declared.capability.Form.Form}
+use Rattle.pc_caps.specs.{Computed.{is_below, fits}, Tables.sendable, declared.capability.Cap.Cap, declared.capability.Form.Form}
 use Rattle.pc_sub.specs.Computed.{is_sub}
 use Rattle.pc_core.specs.{declared.declarations.EntityDef.EntityDef, declared.declarations.MethodKind.MethodKind, declared.nodes.Slot.Slot, declared.nodes.Node.Node, CoreData.CoreData}
-use Rattle.pc_lists.specs.Lists.{◌>>=◌}
-use Rattle.pc_masks.specs.{declared.mask.Mask.Mask, Masks.first, Masks.within, Masks.same}
+use Rattle.pc_base.specs.Lists.{◌>>=◌}
+use Rattle.pc_masks.specs.{declared.mask.Mask.Mask, Masks.{first, within, same}}
 use Rattle.pc_ann.specs.{declared.annotation.Note.Note, declared.annotation.Ann.Ann}
 use Rattle.pc_valid.specs.Words.{Ty, Masks, Slots, masks_after}
 use Rattle.pc_rules.specs.declared.said.Said.{Said}

@@ -3,10 +3,10 @@
 use Rattle.std.specs.Prelude.{◌≡◌, ℕ, List, Option, Some, None, slice_get}
 use Rattle.pc_tree.specs.Kinds.{u64_entity, bool_entity, string_entity}
 use Rattle.pc_ann.specs.{declared.annotation.Rule.Rule, declared.annotation.Note.Note, declared.annotation.Ann.Ann}
-use Rattle.pc_rules.specs.{Parts.notes_of, Values.literal_says, Values.this_says, Values.local_says, Values.consume_says, Values.define_says, Values.assign_says, Fields.get_says, Fields.getown_says, Fields.put_says, Fields.putown_says, Calls.new_says, Calls.spawn_says, Calls.call_says, Calls.callrecover_says, Calls.send_says, Calls.builtin_says, Operators.arith_says, Operators.compare_says, Operators.equal_says, Operators.join_says, Operators.xor_says, Operators.not_says, Operators.identity_says, Operators.lazy_says, Control.seq_says, Control.if_says, Control.while_says, Control.recover_says, Control.body_says, declared.said.Said.Said}
+use Rattle.pc_rules.specs.{Parts.notes_of, Values.{literal_says, this_says, local_says, consume_says, define_says, assign_says}, Fields.{get_says, getown_says, put_says, putown_says}, Calls.{new_says, spawn_says, call_says, callrecover_says, send_says, builtin_says}, Operators.{arith_says, compare_says, equal_says, join_says, xor_says, not_says, identity_says, lazy_says}, Control.{seq_says, if_says, while_says, recover_says, body_says}, declared.said.Said.Said}
 use Rattle.pc_valid.specs.Words.{Masks, Slots, before}
 use Rattle.pc_core.specs.{declared.nodes.Node.Node, declared.nodes.NodeKind.NodeKind, CoreData.CoreData}
-use Rattle.pc_lists.specs.Lists.{◌>>=◌}
+use Rattle.pc_base.specs.Lists.{◌>>=◌}
 use Rattle.pc_ann.specs.declared.annotation.Rule.TheVariants as rule
 use Rattle.pc_core.specs.declared.nodes.NodeKind.TheVariants as node
 

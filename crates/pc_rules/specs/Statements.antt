@@ -1,11 +1,11 @@
 -- Laws of the rules.
 use Rattle.std.specs.Prelude.{◌≡◌, ◌≢◌, ◌⊎◌, ◌↔◌, ℕ, ◌<◌, List, Some}
-use Rattle.pc_caps.specs.Limits.{slot_limit}
+use Rattle.pc_base.specs.Limits.{slot_limit}
 use Rattle.pc_core.specs.{declared.nodes.Node.Node, declared.nodes.NodeKind.NodeKind, CoreData.CoreData, Formed.Formed}
 use Rattle.pc_ann.specs.{declared.annotation.Note.Note, declared.annotation.Ann.Ann, declared.annotation.Rule.Rule}
 use Rattle.pc_masks.specs.Masks.{IsInMask}
-use Rattle.pc_rules.specs.{declared.said.Said.Said, Parts.through, Rules.says, Rules.said_by, Rules.IsSaid, Rules.NoteIsSaid, Rules.rule_says, Checks.Checks, Checks.SaysNothing, Checks.StaysUnset}
-use Rattle.pc_valid.specs.{Words.Masks, Words.Slots, Words.before, Words.Defines, Valid.Means, Valid.MeetsRule, Valid.Valid, NoRule.NoRule, NoRule.Unset}
+use Rattle.pc_rules.specs.{declared.said.Said.Said, Parts.through, Rules.{says, said_by, IsSaid, NoteIsSaid, rule_says}, Checks.{Checks, SaysNothing, StaysUnset}}
+use Rattle.pc_valid.specs.{Words.{Masks, Slots, before, Defines}, Valid.{Means, MeetsRule, Valid}, NoRule.{NoRule, Unset}}
 use Rattle.pc_core.specs.declared.nodes.NodeKind.TheVariants as node
 use Rattle.pc_ann.specs.declared.annotation.Rule.TheVariants as rule
 

@@ -1,10 +1,9 @@
 -- The nodes of a method as a tree. Since they are in post-order, a subtree is a run of nodes that ends with its root.
-use Rattle.std.proofs.Common.{ap, sym, subst, ◌∙◌, arith}
-use Rattle.std.proofs.lemmas.Option.{same_Some, none-some}
-use Rattle.pc_lists.proofs.Gets.{get_range}
+use Rattle.std.proofs.{Common.{ap, sym, subst, ◌∙◌, arith}, lemmas.Option.{same_Some, none-some}}
+use Rattle.pc_base.proofs.Gets.{get_range}
 use Rattle.std.specs.Prelude.{◌≡◌, ℕ, zero, suc, ◌+◌, ◌<◌, ◌≤◌, List, [], ◌∷◌, ◌++◌, length, Some, slice_get, refl}
-use Rattle.pc_core.specs.{declared.declarations.Method.Method, declared.nodes.Node.Node, CoreData.CoreData, CoreData.node_end, Further.own_nodes, Methods.PostOrder, Methods.BodyFits}
-use Rattle.pc_lists.specs.Lists.{Each}
+use Rattle.pc_core.specs.{declared.declarations.Method.Method, declared.nodes.Node.Node, CoreData.{CoreData, node_end}, Further.own_nodes, Methods.{PostOrder, BodyFits}}
+use Rattle.pc_base.specs.Lists.{Each}
 
 -- The subtree of node n consists of the nodes from number `low` up to n: its children's subtrees, one after the other,
 -- and itself.

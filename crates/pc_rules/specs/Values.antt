@@ -1,11 +1,11 @@
 -- Rules for literals, `this`, locals and their definitions.
 use Rattle.std.specs.Prelude.{ℕ, Bool, true, false, ◌&&◌, List, Option, Some, None, nat_eq, slice_get, if◌then◌else◌}
-use Rattle.pc_caps.specs.{Tables.plain, Tables.unalias, Tables.stored, declared.capability.Cap.Cap, declared.capability.Form.Form}
-use Rattle.pc_rules.specs.{Parts.says_of, Parts.goes_to, Parts.slot_of, Parts.reachable, Parts.full, Parts.through_notes, Parts.one_type, declared.said.Said.Said}
+use Rattle.pc_caps.specs.{Tables.{plain, unalias, stored}, declared.capability.Cap.Cap, declared.capability.Form.Form}
+use Rattle.pc_rules.specs.{Parts.{says_of, goes_to, slot_of, reachable, full, through_notes, one_type}, declared.said.Said.Said}
 use Rattle.pc_valid.specs.Words.{Ty, Masks, Slots}
 use Rattle.pc_core.specs.{declared.nodes.Slot.Slot, declared.nodes.SlotKind.SlotKind, declared.nodes.Node.Node, CoreData.CoreData}
-use Rattle.pc_lists.specs.Lists.{◌>>=◌}
-use Rattle.pc_masks.specs.{declared.mask.Mask.Mask, Masks.has, Masks.with_number, Masks.without_number}
+use Rattle.pc_base.specs.Lists.{◌>>=◌}
+use Rattle.pc_masks.specs.{declared.mask.Mask.Mask, Masks.{has, with_number, without_number}}
 use Rattle.pc_ann.specs.declared.annotation.Note.{Note}
 use Rattle.pc_caps.specs.declared.capability.Cap.TheVariants as cap
 use Rattle.pc_caps.specs.declared.capability.Form.TheVariants as form

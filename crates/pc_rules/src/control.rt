@@ -11,7 +11,8 @@ use crate::parts::{
 };
 use crate::said::Said;
 use pc_ann::Note;
-use pc_caps::{Cap, Form, SLOT_LIMIT, fits, lift, unalias};
+use pc_base::SLOT_LIMIT;
+use pc_caps::{Cap, Form, fits, lift, unalias};
 use pc_core::{Core, Method, MethodKind, Node, NodeKind};
 use pc_masks::Mask;
 use pc_tree::{BOOL_ENTITY, NONE_ENTITY};

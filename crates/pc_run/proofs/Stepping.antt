@@ -1,29 +1,13 @@
 -- A run goes on by a step.
-use Rattle.std.proofs.Common.{◌≡◌, ℕ, suc, ◌+◌, ◌-◌, ◌<◌, ◌≤◌, Bool, List, [], ◌∷◌, ◌++◌, length, take, replicate, cond, refl, sym, ap, ◌∙◌, subst, arith, append_assoc, append-nil, length-append, zero-add}
-use Rattle.std.specs.Prelude.{Result, Ok, Err, OnErr}
-use Rattle.std.specs.List.{count_by}
-use Rattle.std.specs.FinMap.{len}
-use Rattle.std.proofs.Math.Seq.{take-append_seam}
-use Rattle.std.proofs.lemmas.List.{length-replicate}
-use Rattle.std.proofs.lemmas.List.Sums.{sum_by-cons}
+use Rattle.std.proofs.{Common.{◌≡◌, ℕ, suc, ◌+◌, ◌-◌, ◌<◌, ◌≤◌, Bool, List, [], ◌∷◌, ◌++◌, length, take, replicate, cond, refl, sym, ap, ◌∙◌, subst, arith, append_assoc, append-nil, length-append, zero-add}, Math.Seq.take-append_seam, lemmas.List.length-replicate, lemmas.List.Sums.sum_by-cons}
+use Rattle.std.specs.{Prelude.{Result, Ok, Err, OnErr}, List.count_by, FinMap.len}
 use Rattle.pc_core.specs.CoreData.{CoreData}
 use Rattle.pc_heap.specs.Heaps.{object_limit}
 use Rattle.pc_machine.specs.Machines.{message_limit}
-use Rattle.pc_sched.specs.declared.turns.Turn.{Turn}
-use Rattle.pc_sched.specs.Schedules.{turn_limit, total}
-use Rattle.pc_semantics.specs.declared.outcome.Lack.{Lack}
-use Rattle.pc_semantics.specs.declared.outcome.Outcome.{Outcome}
+use Rattle.pc_sched.specs.{declared.turns.Turn.Turn, Schedules.{turn_limit, total}}
+use Rattle.pc_semantics.specs.{declared.outcome.Lack.Lack, declared.outcome.Outcome.Outcome, Configurations.{Configuration, start}, Step.{after, followed, outcomes, outcomes_from, run_from, step}, Safety.LacksNothing, Text.{ended_at, end_of, is_moved, is_skipped, waiting}}
 use Rattle.pc_semantics.specs.declared.outcome.Outcome.TheVariants as outcome
-use Rattle.pc_semantics.specs.Configurations.{Configuration, start}
-use Rattle.pc_semantics.specs.Step.{after, followed, outcomes, outcomes_from, run_from, step}
-use Rattle.pc_semantics.specs.Safety.{LacksNothing}
-use Rattle.pc_semantics.specs.Text.{ended_at, end_of, is_moved, is_skipped, waiting}
-use Rattle.pc_run.specs.declared.counts.Counts.{Counts}
-use Rattle.pc_run.specs.declared.counts.Progress.{Progress}
-use Rattle.pc_run.specs.Counting.{counted}
-use Rattle.pc_run.specs.Ends.{NeverLacks, IsBegun}
-use Rattle.pc_run.specs.Spreading.{spread}
-use Rattle.pc_run.specs.Underway.{Underway, ReachedSoFar}
+use Rattle.pc_run.specs.{declared.counts.Counts.Counts, declared.counts.Progress.Progress, Counting.counted, Ends.{NeverLacks, IsBegun}, Spreading.spread, Underway.{Underway, ReachedSoFar}}
 use Rattle.pc_machine.proofs.Growing.{Changes, step_changes, few_at_start}
 
 -- ---- the steps of turns

@@ -1,28 +1,12 @@
 -- From the steps and the writing to the run.
-use Rattle.std.proofs.Common.{◌≡◌, ℕ, ◌≤◌, List, [], ◌++◌, length, Option, Result, Ok, Err, sym, ap, ◌∙◌, subst, append-nil, add-zero}
-use Rattle.std.specs.Prelude.{IsErrAnd}
-use Rattle.std.specs.List.{count_by}
-use Rattle.std.specs.FinMap.{len}
-use Rattle.std.specs.Io.KnownBytes.{Appends}
-use Rattle.std.proofs.Math.Seq.{take-length}
+use Rattle.std.proofs.{Common.{◌≡◌, ℕ, ◌≤◌, List, [], ◌++◌, length, Option, Result, Ok, Err, sym, ap, ◌∙◌, subst, append-nil, add-zero}, Math.Seq.take-length, KnownBytes.Appends-trans}
+use Rattle.std.specs.{Prelude.IsErrAnd, List.count_by, FinMap.len, Io.KnownBytes.Appends}
 use Rattle.pc_core.specs.CoreData.{CoreData}
 use Rattle.pc_io.specs.Sink.{GrowsByPrefix, Change, change}
-use Rattle.pc_semantics.specs.Configurations.{Configuration}
-use Rattle.pc_semantics.specs.Step.{after, outcomes}
-use Rattle.pc_semantics.specs.Text.{is_moved, is_skipped, lines, run_text, text_at_end, waiting}
-use Rattle.pc_run.specs.declared.counts.Counts.{Counts}
-use Rattle.pc_run.specs.declared.counts.Progress.{Progress}
+use Rattle.pc_semantics.specs.{Configurations.Configuration, Step.{after, outcomes}, Text.{is_moved, is_skipped, lines, run_text, text_at_end, waiting}}
+use Rattle.pc_run.specs.{declared.counts.Counts.Counts, declared.counts.Progress.Progress, declared.report.Report.Report, declared.report.RunFault.RunFault, declared.report.RunFault.TheVariants.{Sink, TooLong, Memory}, Ends.{IsAnswer, Leaves, WritesText}, Reports.{report_of, summary_of}, Underway.{Underway, ReachedSoFar}, Writing.WriteStops}
 use Rattle.pc_run.specs.declared.counts.Progress.TheVariants as progress
-use Rattle.pc_run.specs.declared.report.Report.{Report}
-use Rattle.pc_run.specs.declared.report.RunFault.{RunFault}
-use Rattle.pc_run.specs.declared.report.RunFault.TheVariants.{Sink, TooLong, Memory}
-use Rattle.std.proofs.KnownBytes.{Appends-trans}
-use Rattle.pc_run.specs.Ends.{IsAnswer, Leaves, WritesText}
-use Rattle.pc_run.specs.Reports.{report_of, summary_of}
-use Rattle.pc_run.specs.Underway.{Underway, ReachedSoFar}
-use Rattle.pc_run.specs.Writing.{WriteStops}
-use Rattle.pc_run.proofs.Stepping.{behind_all}
-use Rattle.pc_run.proofs.Written.{stops_more, stops_on}
+use Rattle.pc_run.proofs.{Stepping.behind_all, Written.{stops_more, stops_on}}
 
 -- The numbers at a configuration.
 abbrev pub report_at : Configuration → Counts → Report

@@ -1,18 +1,11 @@
 -- Writing one text after another.
-use Rattle.std.proofs.Common.{◌≡◌, ℕ, ◌+◌, ◌<◌, ◌≤◌, List, ◌∷◌, ◌++◌, length, get_or, take, drop, Option, Result, Ok, Err, sym, ap, ◌∙◌, subst, append_assoc}
-use Rattle.std.proofs.Math.Seq.{take-append_seam}
-use Rattle.std.specs.Prelude.{IsErrAnd}
-use Rattle.std.proofs.lemmas.List.{take-append-drop, drop_more}
-use Rattle.std.proofs.lemmas.List.Concat.{flat_map-append}
-use Rattle.std.proofs.KnownBytes.{Appends-trans}
-use Rattle.std.specs.Io.KnownBytes.{Appends}
+use Rattle.std.proofs.{Common.{◌≡◌, ℕ, ◌+◌, ◌<◌, ◌≤◌, List, ◌∷◌, ◌++◌, length, get_or, take, drop, Option, Result, Ok, Err, sym, ap, ◌∙◌, subst, append_assoc}, Math.Seq.take-append_seam, lemmas.List.{take-append-drop, drop_more}, lemmas.List.Concat.flat_map-append, KnownBytes.Appends-trans}
+use Rattle.std.specs.{Prelude.IsErrAnd, Io.KnownBytes.Appends}
 use Rattle.pc_io.specs.Sink.{GrowsByPrefix, Change, change}
 use Rattle.pc_io.proofs.Prefixes.{grows_more, grows_on, rose_before}
-use Rattle.pc_lists.specs.Lists.{line_end}
+use Rattle.pc_base.specs.Lists.{line_end}
 use Rattle.pc_semantics.specs.Text.{lines}
-use Rattle.pc_run.specs.declared.report.RunFault.{RunFault}
-use Rattle.pc_run.specs.declared.report.RunFault.TheVariants.{Sink, TooLong, Memory}
-use Rattle.pc_run.specs.Writing.{WriteStops, Wrote}
+use Rattle.pc_run.specs.{declared.report.RunFault.RunFault, declared.report.RunFault.TheVariants.{Sink, TooLong, Memory}, Writing.{WriteStops, Wrote}}
 
 -- ---- prefixes
 

@@ -1,7 +1,7 @@
 -- Steps are counted.
 use Rattle.std.specs.Prelude.{◌+◌}
 use Rattle.pc_semantics.specs.declared.outcome.Outcome.{Outcome}
-use Rattle.pc_run.specs.{declared.counts.Counts.Counts, declared.counts.Progress.Progress, declared.counts.Progress.TheVariants.Going, declared.counts.Progress.TheVariants.TooLong}
+use Rattle.pc_run.specs.{declared.counts.Counts.Counts, declared.counts.Progress.Progress, declared.counts.Progress.TheVariants.{Going, TooLong}}
 use Rattle.pc_semantics.specs.declared.outcome.Outcome.TheVariants as outcome
 
 -- The progress of a run after one more step with this outcome. A step that lacks something is not counted.

@@ -1,10 +1,9 @@
 -- What a run returns, writes and leaves.
-use Rattle.std.specs.Prelude.{◌≡◌, ℕ, List, take, Option, Some, None, Result, Ok, Err}
-use Rattle.std.specs.Io.KnownBytes.{Appends}
+use Rattle.std.specs.{Prelude.{◌≡◌, ℕ, List, take, Option, Some, None, Result, Ok, Err}, Io.KnownBytes.Appends}
 use Rattle.pc_core.specs.CoreData.{CoreData}
 use Rattle.pc_io.specs.Sink.{HasRisen, GrowsByPrefix}
-use Rattle.pc_semantics.specs.{Configurations.Configuration, Step.after, Step.outcomes, Safety.LacksNothing, Text.end_of, Text.run_text}
-use Rattle.pc_run.specs.{declared.report.Report.Report, declared.report.RunFault.RunFault, declared.report.RunFault.TheVariants.Sink, declared.report.RunFault.TheVariants.TooLong, declared.report.RunFault.TheVariants.Memory, Reports.report_of}
+use Rattle.pc_semantics.specs.{Configurations.Configuration, Step.{after, outcomes}, Safety.LacksNothing, Text.{end_of, run_text}}
+use Rattle.pc_run.specs.{declared.report.Report.Report, declared.report.RunFault.RunFault, declared.report.RunFault.TheVariants.{Sink, TooLong, Memory}, Reports.report_of}
 use Rattle.pc_semantics.specs.declared.outcome.Outcome.TheVariants as outcome
 
 -- Over every list of actors, no step lacks anything.

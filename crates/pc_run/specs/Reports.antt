@@ -1,8 +1,7 @@
 -- The numbers of a run.
-use Rattle.std.specs.Prelude.{ℕ, List, length}
-use Rattle.std.specs.{List.count_by, FinMap.len}
+use Rattle.std.specs.{Prelude.{ℕ, List, length}, List.count_by, FinMap.len}
 use Rattle.pc_core.specs.CoreData.{CoreData}
-use Rattle.pc_semantics.specs.{Step.after, Step.outcomes, Text.is_moved, Text.is_skipped, Text.summary, Text.waiting}
+use Rattle.pc_semantics.specs.{Step.{after, outcomes}, Text.{is_moved, is_skipped, summary, waiting}}
 use Rattle.pc_run.specs.declared.report.Report.{Report}
 
 -- The numbers of the run of a list of actors: the steps that moved and those that were skipped, and the actors, objects

@@ -1,10 +1,9 @@
 -- Runs that are under way.
-use Rattle.std.specs.Prelude.{◌≡◌, ℕ, ◌+◌, ◌≤◌, List, ◌++◌, length, Some}
-use Rattle.std.specs.{List.count_by, FinMap.len}
+use Rattle.std.specs.{Prelude.{◌≡◌, ℕ, ◌+◌, ◌≤◌, List, ◌++◌, length, Some}, List.count_by, FinMap.len}
 use Rattle.pc_core.specs.CoreData.{CoreData}
 use Rattle.pc_sched.specs.Schedules.{turn_limit}
-use Rattle.pc_semantics.specs.{Configurations.Configuration, Step.after, Step.outcomes, Step.outcomes_from, Step.run_from, Text.ended_at, Text.end_of, Text.is_moved, Text.is_skipped, Text.waiting}
-use Rattle.pc_run.specs.{declared.counts.Counts.Counts, declared.counts.Progress.Progress, declared.counts.Progress.TheVariants.Going, declared.counts.Progress.TheVariants.TooLong}
+use Rattle.pc_semantics.specs.{Configurations.Configuration, Step.{after, outcomes, outcomes_from, run_from}, Text.{ended_at, end_of, is_moved, is_skipped, waiting}}
+use Rattle.pc_run.specs.{declared.counts.Counts.Counts, declared.counts.Progress.Progress, declared.counts.Progress.TheVariants.{Going, TooLong}}
 use Rattle.pc_semantics.specs.declared.outcome.Outcome.TheVariants as outcome
 
 -- These steps of a list are left; all steps before them moved or were skipped, and led to configuration c. The rest of

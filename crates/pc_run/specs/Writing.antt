@@ -1,8 +1,7 @@
 -- How the writing of a text ended.
-use Rattle.std.specs.Prelude.{List, ℕ, Result, MatchResult}
-use Rattle.std.specs.Io.KnownBytes.{Appends}
+use Rattle.std.specs.{Prelude.{List, ℕ, Result, MatchResult}, Io.KnownBytes.Appends}
 use Rattle.pc_io.specs.Sink.{Change, HasRisen, GrowsByPrefix}
-use Rattle.pc_run.specs.{declared.report.RunFault.RunFault, declared.report.RunFault.TheVariants.Sink, declared.report.RunFault.TheVariants.TooLong, declared.report.RunFault.TheVariants.Memory}
+use Rattle.pc_run.specs.{declared.report.RunFault.RunFault, declared.report.RunFault.TheVariants.{Sink, TooLong, Memory}}
 
 -- The writing of a text stopped: the sink failed, or memory ran out. A prefix of the text was written.
 abbrev pub WriteStops : List ℕ → Change → RunFault → Type 0

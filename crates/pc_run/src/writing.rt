@@ -1,13 +1,13 @@
 //! The writing of what a run printed, and of its numbers.
 ghost use Rattle.std.specs.Prelude.{◌≡◌, ◌≤◌, ◌++◌, IfOk, string_bytes};
-ghost use Rattle.pc_lists.specs.Lists.{line_end};
+ghost use Rattle.pc_base.specs.Lists.{line_end};
 ghost use Rattle.pc_semantics.specs.Text.{lines};
 ghost use Rattle.pc_run.specs.Reports.{summary_of};
 ghost use Rattle.pc_io.specs.Sink.{change};
 ghost use Rattle.pc_run.specs.Writing.{Wrote};
 
 use crate::report::{Report, RunFault};
-use pc_caps::List;
+use pc_base::List;
 use pc_io::{Sink, SinkFault};
 use std::alloc::{AllocError, Global};
 

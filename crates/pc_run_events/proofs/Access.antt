@@ -1,28 +1,13 @@
 -- A step that reads or writes a field takes no message, sends none, and makes no actor and no object.
-use Rattle.std.specs.Prelude.{◌≡◌, ℕ, Bool, List, [], ◌∷◌, Option, Some, None, slice_get, refl}
-use Rattle.std.specs.FinMap.{get}
+use Rattle.std.specs.{Prelude.{◌≡◌, ℕ, Bool, List, [], ◌∷◌, Option, Some, None, slice_get, refl}, FinMap.get}
 use Rattle.std.proofs.lemmas.Option.{none-some}
-use Rattle.pc_core.specs.CoreData.{CoreData, field_named}
-use Rattle.pc_core.specs.declared.nodes.Node.{Node}
-use Rattle.pc_core.specs.declared.nodes.NodeKind.{NodeKind}
+use Rattle.pc_core.specs.{CoreData.{CoreData, field_named}, declared.nodes.Node.Node, declared.nodes.NodeKind.NodeKind}
 use Rattle.pc_core.specs.declared.nodes.NodeKind.TheVariants as node
-use Rattle.pc_heap.specs.Objects.{Object}
-use Rattle.pc_heap.specs.declared.value.Address.{Address}
-use Rattle.pc_heap.specs.declared.value.Value.{Value}
+use Rattle.pc_heap.specs.{Objects.Object, declared.value.Address.Address, declared.value.Value.Value}
 use Rattle.pc_heap.specs.declared.value.Value.TheVariants as value
-use Rattle.pc_lists.specs.Lists.{◌>>=◌}
-use Rattle.pc_semantics.specs.Ahead.{ahead_of, by_move, of_frames}
-use Rattle.pc_semantics.specs.Parts.{of_actor, of_tasks, with_top, get_field, get_from, get_of, get_value, put_field, put_into, put_of, put_value, at_node}
-use Rattle.pc_semantics.specs.Configurations.{Around, Move, Stuck, Overflows, Goes, Writes, Makes, Spawns, Enters, Sends, Leaves, pop, with_stack, with_tasks, Configuration}
-use Rattle.pc_semantics.specs.Calls.{get_task, put_task}
-use Rattle.pc_semantics.specs.Safety.{access, access_of, touched_name}
-use Rattle.pc_semantics.specs.Step.{around, task_move}
-use Rattle.pc_semantics.specs.declared.access.Access.{Access}
-use Rattle.pc_semantics.specs.declared.actors.Actor.{Actor}
-use Rattle.pc_semantics.specs.declared.ahead.Ahead.{Ahead}
+use Rattle.pc_base.specs.Lists.{◌>>=◌}
+use Rattle.pc_semantics.specs.{Ahead.{ahead_of, by_move, of_frames}, Parts.{of_actor, of_tasks, with_top, get_field, get_from, get_of, get_value, put_field, put_into, put_of, put_value, at_node}, Configurations.{Around, Move, Stuck, Overflows, Goes, Writes, Makes, Spawns, Enters, Sends, Leaves, pop, with_stack, with_tasks, Configuration}, Calls.{get_task, put_task}, Safety.{access, access_of, touched_name}, Step.{around, task_move}, declared.access.Access.Access, declared.actors.Actor.Actor, declared.ahead.Ahead.Ahead, declared.frames.Frame.Frame, declared.frames.Task.Task}
 use Rattle.pc_semantics.specs.declared.ahead.Ahead.TheVariants as ahead
-use Rattle.pc_semantics.specs.declared.frames.Frame.{Frame}
-use Rattle.pc_semantics.specs.declared.frames.Task.{Task}
 use Rattle.pc_semantics.specs.declared.frames.Task.TheVariants as task
 
 -- Nothing of a mailbox, and no new actor.

@@ -1,42 +1,16 @@
 -- What is there after a step: the message that it sent, and the object that it made.
-use Rattle.std.specs.Prelude.{◌≡◌, ◌⊎◌, ◌<◌, ℕ, zero, suc, ◌+◌, Bool, false, cond, is_some, List, [], ◌∷◌, ◌++◌, take, length, Option, Some, None, slice_get, refl}
-use Rattle.std.proofs.Common.{inl, inr, ap, sym, subst, ◌∙◌}
-use Rattle.std.proofs.lemmas.Option.{same_Some, none-some}
-use Rattle.std.specs.FinMap.{get, insert, len, len-insert}
-use Rattle.pc_heap.specs.Addresses.{addresses_total}
-use Rattle.pc_heap.specs.Objects.{ObjectMap, class_at, with_field, Object}
-use Rattle.pc_heap.specs.Parts.{class_in, object_in}
-use Rattle.pc_heap.specs.declared.value.Address.{Address}
-use Rattle.pc_heap.specs.declared.value.Value.{Value}
-use Rattle.pc_heap.specs.declared.value.Value.TheVariants.{At}
+use Rattle.std.specs.{Prelude.{◌≡◌, ◌⊎◌, ◌<◌, ℕ, zero, suc, ◌+◌, Bool, false, cond, is_some, List, [], ◌∷◌, ◌++◌, take, length, Option, Some, None, slice_get, refl}, FinMap.{get, insert, len, len-insert}}
+use Rattle.std.proofs.{Common.{inl, inr, ap, sym, subst, ◌∙◌}, lemmas.Option.{same_Some, none-some}}
+use Rattle.pc_heap.specs.{Addresses.addresses_total, Objects.{ObjectMap, class_at, with_field, Object}, Parts.{class_in, object_in}, declared.value.Address.Address, declared.value.Value.Value, declared.value.Value.TheVariants.At}
 use Rattle.pc_core.specs.CoreData.{CoreData}
-use Rattle.pc_lists.proofs.Gets.{get_within}
-use Rattle.pc_lists.specs.Lists.{◌>>=◌}
-use Rattle.pc_semantics.specs.Ahead.{ahead_of, by_move}
-use Rattle.pc_semantics.specs.Configurations.{Move, Stuck, Overflows, Goes, Writes, Makes, Spawns, Enters, Sends, Leaves, Configuration, start, address_of}
-use Rattle.pc_semantics.specs.Safety.{access, touched_name}
-use Rattle.pc_semantics.specs.Step.{left}
-use Rattle.pc_semantics.specs.declared.actors.Actor.{Actor}
-use Rattle.pc_semantics.specs.declared.ahead.Ahead.{Ahead}
+use Rattle.pc_base.proofs.Gets.{get_within}
+use Rattle.pc_base.specs.Lists.{◌>>=◌}
+use Rattle.pc_semantics.specs.{Ahead.{ahead_of, by_move}, Configurations.{Move, Stuck, Overflows, Goes, Writes, Makes, Spawns, Enters, Sends, Leaves, Configuration, start, address_of}, Safety.{access, touched_name}, Step.left, declared.actors.Actor.Actor, declared.ahead.Ahead.Ahead, declared.frames.Frame.Frame, declared.frames.Task.Task, declared.mailbox.Message.Message, declared.outcome.Outcome.TheVariants.Moved}
 use Rattle.pc_semantics.specs.declared.ahead.Ahead.TheVariants as ahead
-use Rattle.pc_semantics.specs.declared.frames.Frame.{Frame}
-use Rattle.pc_semantics.specs.declared.frames.Task.{Task}
-use Rattle.pc_semantics.specs.declared.mailbox.Message.{Message}
-use Rattle.pc_semantics.specs.declared.outcome.Outcome.TheVariants.{Moved}
 use Rattle.pc_events.specs.Before.{at_place, Event, waiting_for, waiting_of}
-use Rattle.pc_events.proofs.Changes.{Change, Heaping, New, Same, Sets, applied, changed, going, heaped, local, on_heap, planned, plan, pushing}
-use Rattle.pc_events.proofs.Closed.{moved_next}
-use Rattle.pc_events.proofs.Lists.{get_changed, length_changed}
-use Rattle.pc_events.proofs.Maps.{Fit, address_cases, get_here, get_other}
-use Rattle.pc_events.proofs.Outcomes.{taking_ahead, turn}
-use Rattle.pc_events.proofs.Plans.{plans, view}
-use Rattle.pc_events.proofs.Reach.{Placed, after_placed, fits}
-use Rattle.pc_events.proofs.Right.{touch_by}
-use Rattle.pc_events.proofs.Told.{Told, access_is, ahead_is, told}
+use Rattle.pc_events.proofs.{Changes.{Change, Heaping, New, Same, Sets, applied, changed, going, heaped, local, on_heap, planned, plan, pushing}, Closed.moved_next, Lists.{get_changed, length_changed}, Maps.{Fit, address_cases, get_here, get_other}, Outcomes.{taking_ahead, turn}, Plans.{plans, view}, Reach.{Placed, after_placed, fits}, Right.touch_by, Told.{Told, access_is, ahead_is, told}}
 use Rattle.pc_run_events.proofs.Shown.{OfConstructor, Shown, shown}
-use Rattle.pc_run_events.specs.Events.{MadeThere, method_waiting}
-use Rattle.pc_run_events.specs.Sights.{method_called, method_sent, next_task}
-use Rattle.pc_run_events.specs.Turns.{this_of}
+use Rattle.pc_run_events.specs.{Events.{MadeThere, method_waiting}, Sights.{method_called, method_sent, next_task}, Turns.this_of}
 
 -- ---- objects
 

@@ -1,24 +1,15 @@
 -- What the events of a safe core name exists.
 use Rattle.std.specs.Prelude.{◌≡◌, ◌⊎◌, ◌<◌, ℕ, suc, List, take, length, Option, Some, None, IsSome, slice_get, refl}
-use Rattle.std.proofs.Common.{inl, inr, sym, subst, ◌∙◌}
-use Rattle.std.proofs.lemmas.Option.{none-some, same_Some}
-use Rattle.pc_core.specs.CoreData.{CoreData}
-use Rattle.pc_core.specs.Formed.{Formed}
-use Rattle.pc_core.specs.declared.declarations.Method.{Method}
+use Rattle.std.proofs.{Common.{inl, inr, sym, subst, ◌∙◌}, lemmas.Option.{none-some, same_Some}}
+use Rattle.pc_core.specs.{CoreData.CoreData, Formed.Formed, declared.declarations.Method.Method}
 use Rattle.pc_events.specs.Before.{at_place, Event}
 use Rattle.pc_heap.specs.declared.value.Address.{Address}
-use Rattle.pc_lists.proofs.Gets.{get_within}
-use Rattle.pc_lists.specs.Lists.{◌>>=◌}
+use Rattle.pc_base.proofs.Gets.{get_within}
+use Rattle.pc_base.specs.Lists.{◌>>=◌}
 use Rattle.pc_run_events.proofs.Effects.{Effects, NoneMade, OneMade, effects_at}
-use Rattle.pc_run_events.specs.Events.{AllEvents, Does, MadeThere, method_waiting}
-use Rattle.pc_run_events.specs.Lines.{AllNamed, MethodHasName, DeedHasNames}
-use Rattle.pc_run_events.specs.declared.events.Deed.{Deed}
+use Rattle.pc_run_events.specs.{Events.{AllEvents, Does, MadeThere, method_waiting}, Lines.{AllNamed, MethodHasName, DeedHasNames}, declared.events.Deed.Deed, declared.events.RunEvent.RunEvent}
 use Rattle.pc_run_events.specs.declared.events.Deed.TheVariants as deed
-use Rattle.pc_run_events.specs.declared.events.RunEvent.{RunEvent}
-use Rattle.pc_semantics.specs.Configurations.{Configuration}
-use Rattle.pc_semantics.specs.Safety.{Quiet, Safe}
-use Rattle.pc_semantics.specs.declared.actors.Actor.{Actor}
-use Rattle.pc_semantics.specs.declared.mailbox.Message.{Message}
+use Rattle.pc_semantics.specs.{Configurations.Configuration, Safety.{Quiet, Safe}, declared.actors.Actor.Actor, declared.mailbox.Message.Message}
 
 is_some : {T : Type 0} (o : Option T) (x : T) → o ≡ Some x → IsSome o
 is_some {T} o x e = subst (λ (p : Option T). IsSome p) (sym e) refl

@@ -1,27 +1,15 @@
 -- A step does at most one thing.
 use Rattle.std.specs.Prelude.{◌≡◌, ◌⊎◌, ◌<◌, ℕ, zero, suc, List, Some, refl}
-use Rattle.std.proofs.Common.{inl, inr, ap, sym, subst, ◌∙◌, arith}
-use Rattle.std.proofs.lemmas.Bool.Decides.{leb_tells}
-use Rattle.std.proofs.lemmas.Option.{none-some, same_Some}
+use Rattle.std.proofs.{Common.{inl, inr, ap, sym, subst, ◌∙◌, arith}, lemmas.Bool.Decides.leb_tells, lemmas.Option.{none-some, same_Some}}
 use Rattle.pc_core.specs.CoreData.{CoreData}
 use Rattle.pc_heap.specs.declared.value.Address.{Address}
-use Rattle.pc_semantics.specs.Ahead.{ahead_of}
-use Rattle.pc_semantics.specs.Configurations.{Configuration, start}
-use Rattle.pc_semantics.specs.Safety.{access}
-use Rattle.pc_semantics.specs.declared.access.Access.{Access}
-use Rattle.pc_semantics.specs.declared.ahead.Ahead.{Ahead}
+use Rattle.pc_semantics.specs.{Ahead.ahead_of, Configurations.{Configuration, start}, Safety.access, declared.access.Access.Access, declared.ahead.Ahead.Ahead, declared.outcome.Outcome.TheVariants.Moved}
 use Rattle.pc_semantics.specs.declared.ahead.Ahead.TheVariants as ahead
-use Rattle.pc_semantics.specs.declared.outcome.Outcome.TheVariants.{Moved}
-use Rattle.pc_events.specs.Before.{at_place, Carries, Event, receiver_of, taken_before, waiting_for}
-use Rattle.pc_events.specs.Counting.{Live, Put, total}
-use Rattle.pc_events.proofs.Events.{one_actor}
-use Rattle.pc_events.proofs.Outcomes.{earlier}
-use Rattle.pc_events.proofs.Totals.{put_below}
-use Rattle.pc_run_events.specs.Events.{Does, MadeThere, SentAt, method_waiting}
-use Rattle.pc_run_events.specs.declared.events.Deed.{Deed}
+use Rattle.pc_events.specs.{Before.{at_place, Carries, Event, receiver_of, taken_before, waiting_for}, Counting.{Live, Put, total}}
+use Rattle.pc_events.proofs.{Events.one_actor, Outcomes.earlier, Totals.put_below}
+use Rattle.pc_run_events.specs.{Events.{Does, MadeThere, SentAt, method_waiting}, declared.events.Deed.Deed}
 use Rattle.pc_run_events.specs.declared.events.Deed.TheVariants as deed
-use Rattle.pc_run_events.proofs.Access.{IsTask, access_is_task}
-use Rattle.pc_run_events.proofs.Effects.{Effects, NoneMade, OneMade, effects_at}
+use Rattle.pc_run_events.proofs.{Access.{IsTask, access_is_task}, Effects.{Effects, NoneMade, OneMade, effects_at}}
 
 -- ---- one event sent a message
 

@@ -1,25 +1,13 @@
 -- The places that are kept for the messages that wait.
 use Rattle.std.specs.Prelude.{◌≡◌, ◌≢◌, ◌<◌, ◌≤◌, ℕ, zero, suc, ◌+◌, false, List, [], ◌∷◌, ◌++◌, length, drop, Option, Some, None, slice_get, refl}
-use Rattle.std.proofs.Common.{inl, inr, ap, sym, subst, ◌∙◌, arith}
-use Rattle.std.proofs.lemmas.Option.{same_Some, none-some}
-use Rattle.std.proofs.lemmas.Bool.Decides.{eqb_tells, leb_tells}
-use Rattle.pc_lists.proofs.Gets.{get_below, get_drop, get_push, get_within}
+use Rattle.std.proofs.{Common.{inl, inr, ap, sym, subst, ◌∙◌, arith}, lemmas.Option.{same_Some, none-some}, lemmas.Bool.Decides.{eqb_tells, leb_tells}}
+use Rattle.pc_base.proofs.Gets.{get_below, get_drop, get_push, get_within}
 use Rattle.pc_core.specs.CoreData.{CoreData}
-use Rattle.pc_semantics.specs.Ahead.{ahead_of}
-use Rattle.pc_semantics.specs.Configurations.{Configuration, main_create, start, start_of}
-use Rattle.pc_semantics.specs.Step.{outcomes}
-use Rattle.pc_semantics.specs.declared.ahead.Ahead.{Ahead}
+use Rattle.pc_semantics.specs.{Ahead.ahead_of, Configurations.{Configuration, main_create, start, start_of}, Step.outcomes, declared.ahead.Ahead.Ahead, declared.outcome.Outcome.TheVariants.{Moved, Skipped}}
 use Rattle.pc_semantics.specs.declared.ahead.Ahead.TheVariants as ahead
-use Rattle.pc_semantics.specs.declared.outcome.Outcome.TheVariants.{Moved, Skipped}
-use Rattle.pc_events.specs.Before.{at_place, Event, is_take, receiver_by, receiver_of, taken_before, waiting_for, waiting_of}
-use Rattle.pc_events.specs.Counting.{Put, total}
-use Rattle.pc_events.proofs.Boxes.{Boxes, none_behind}
-use Rattle.pc_events.proofs.Events.{one_actor}
-use Rattle.pc_events.proofs.Totals.{Moving, moving, resting, taken_none, taken_other, taken_own}
-use Rattle.pc_run_events.specs.Events.{SentAt}
-use Rattle.pc_run_events.specs.Kept.{PostsKeep, RowKeeps, SentBefore, first_posts}
-use Rattle.pc_run_events.specs.Posts.{RowAt, first_of}
-use Rattle.pc_run_events.specs.Turns.{HasRow, Posted, first_row}
+use Rattle.pc_events.specs.{Before.{at_place, Event, is_take, receiver_by, receiver_of, taken_before, waiting_for, waiting_of}, Counting.{Put, total}}
+use Rattle.pc_events.proofs.{Boxes.{Boxes, none_behind}, Events.one_actor, Totals.{Moving, moving, resting, taken_none, taken_other, taken_own}}
+use Rattle.pc_run_events.specs.{Events.SentAt, Kept.{PostsKeep, RowKeeps, SentBefore, first_posts}, Posts.{RowAt, first_of}, Turns.{HasRow, Posted, first_row}}
 
 none_below : (e : ℕ) → e < 0 → ⊥
 none_below e l = omega (arith, l)

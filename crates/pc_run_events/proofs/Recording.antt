@@ -1,43 +1,19 @@
 -- The events that were noted so far.
-use Rattle.std.specs.Prelude.{◌≡◌, ◌⊎◌, ◌<◌, ◌≤◌, ℕ, zero, suc, ◌+◌, Bool, true, false, if◌then◌else◌, nat_lt, List, [], ◌∷◌, ◌++◌, length, Option, Some, None, slice_get, refl}
-use Rattle.std.proofs.Common.{inl, inr, ap, sym, subst, ◌∙◌, arith}
-use Rattle.std.proofs.lemmas.Bool.{le-ltb, lt-ltb}
-use Rattle.std.proofs.lemmas.Option.{same_Some, none-some}
-use Rattle.std.proofs.lemmas.Bool.Decides.{leb_tells}
-use Rattle.std.specs.FinMap.{len}
-use Rattle.pc_lists.proofs.Gets.{get_behind, get_below, get_front, get_push}
-use Rattle.pc_lists.specs.Lists.{◌>>=◌}
+use Rattle.std.specs.{Prelude.{◌≡◌, ◌⊎◌, ◌<◌, ◌≤◌, ℕ, zero, suc, ◌+◌, Bool, true, false, if◌then◌else◌, nat_lt, List, [], ◌∷◌, ◌++◌, length, Option, Some, None, slice_get, refl}, FinMap.len}
+use Rattle.std.proofs.{Common.{inl, inr, ap, sym, subst, ◌∙◌, arith}, lemmas.Bool.{le-ltb, lt-ltb}, lemmas.Option.{same_Some, none-some}, lemmas.Bool.Decides.leb_tells}
+use Rattle.pc_base.proofs.Gets.{get_behind, get_below, get_front, get_push}
+use Rattle.pc_base.specs.Lists.{◌>>=◌}
 use Rattle.pc_core.specs.CoreData.{CoreData}
-use Rattle.pc_heap.specs.Objects.{class_at}
-use Rattle.pc_heap.specs.declared.value.Address.{Address}
-use Rattle.pc_semantics.specs.Ahead.{ahead_of}
-use Rattle.pc_semantics.specs.Configurations.{Configuration}
-use Rattle.pc_semantics.specs.Step.{outcomes}
-use Rattle.pc_semantics.specs.Safety.{access}
-use Rattle.pc_semantics.specs.declared.access.Access.{Access}
-use Rattle.pc_semantics.specs.declared.actors.Actor.{Actor}
-use Rattle.pc_semantics.specs.declared.ahead.Ahead.{Ahead}
+use Rattle.pc_heap.specs.{Objects.class_at, declared.value.Address.Address}
+use Rattle.pc_semantics.specs.{Ahead.ahead_of, Configurations.Configuration, Step.outcomes, Safety.access, declared.access.Access.Access, declared.actors.Actor.Actor, declared.ahead.Ahead.Ahead, declared.mailbox.Message.Message, declared.outcome.Outcome.TheVariants.{Moved, Skipped}}
 use Rattle.pc_semantics.specs.declared.ahead.Ahead.TheVariants as ahead
-use Rattle.pc_semantics.specs.declared.mailbox.Message.{Message}
-use Rattle.pc_semantics.specs.declared.outcome.Outcome.TheVariants.{Moved, Skipped}
 use Rattle.pc_clocks.specs.Seats.{number}
-use Rattle.pc_events.specs.Before.{at_place, Event, waiting_for, waiting_of}
-use Rattle.pc_events.specs.Clock.{Clock, Clocks}
-use Rattle.pc_events.specs.Counting.{AtOrBefore, Counts}
-use Rattle.pc_events.proofs.Boxes.{Boxes}
-use Rattle.pc_events.proofs.Events.{clock_is, one_actor}
-use Rattle.pc_events.proofs.Totals.{moving}
-use Rattle.pc_run_events.specs.Events.{Does, EventAt, SentAt, method_waiting, touches_in, touches_with}
-use Rattle.pc_run_events.specs.Kept.{Recorded}
-use Rattle.pc_run_events.specs.Sights.{method_ahead, sight}
-use Rattle.pc_run_events.specs.Turns.{deed_after, deed_by, noted_with, object_made, task_deed, this_of}
-use Rattle.pc_run_events.specs.declared.events.Deed.{Deed}
+use Rattle.pc_events.specs.{Before.{at_place, Event, waiting_for, waiting_of}, Clock.{Clock, Clocks}, Counting.{AtOrBefore, Counts}}
+use Rattle.pc_events.proofs.{Boxes.Boxes, Events.{clock_is, one_actor}, Totals.moving}
+use Rattle.pc_run_events.specs.{Events.{Does, EventAt, SentAt, method_waiting, touches_in, touches_with}, Kept.Recorded, Sights.{method_ahead, sight}, Turns.{deed_after, deed_by, noted_with, object_made, task_deed, this_of}, declared.events.Deed.Deed, declared.events.RunEvent.RunEvent}
 use Rattle.pc_run_events.specs.declared.events.Deed.TheVariants as deed
-use Rattle.pc_run_events.specs.declared.events.RunEvent.{RunEvent}
-use Rattle.pc_run_events.proofs.Access.{IsTask, access_is_task}
-use Rattle.pc_run_events.proofs.Effects.{Effects, NoneMade, OneMade, effects_at}
-use Rattle.pc_trace.specs.declared.touch.Touch.{Touch}
-use Rattle.pc_trace.specs.Reached.{noted_with as touched_with}
+use Rattle.pc_run_events.proofs.{Access.{IsTask, access_is_task}, Effects.{Effects, NoneMade, OneMade, effects_at}}
+use Rattle.pc_trace.specs.{declared.touch.Touch.Touch, Reached.noted_with as touched_with}
 
 -- ---- the accesses among the events
 

@@ -1,29 +1,16 @@
 -- What a task's move shows: a message that is sent is of the method that is called; and an object that is made is of
 -- the constructor's entity, and is `this` in the frame that begins.
 use Rattle.std.specs.Prelude.{◌≡◌, ◌&&◌, ℕ, ◌-◌, Bool, true, false, if◌then◌else◌, List, [], length, Option, Some, None, slice_get, nat_eq, nat_lt, refl}
-use Rattle.std.proofs.Common.{ap, sym, ◌∙◌}
-use Rattle.std.proofs.lemmas.Bool.{and_parts, eqb-true}
-use Rattle.pc_core.specs.CoreData.{CoreData, method_named}
-use Rattle.pc_core.specs.declared.declarations.Method.{Method}
-use Rattle.pc_core.specs.declared.declarations.MethodKind.{MethodKind}
+use Rattle.std.proofs.{Common.{ap, sym, ◌∙◌}, lemmas.Bool.{and_parts, eqb-true}}
+use Rattle.pc_core.specs.{CoreData.{CoreData, method_named}, declared.declarations.Method.Method, declared.declarations.MethodKind.MethodKind, declared.nodes.Node.Node, declared.nodes.NodeKind.NodeKind}
 use Rattle.pc_core.specs.declared.declarations.MethodKind.TheVariants as method
-use Rattle.pc_core.specs.declared.nodes.Node.{Node}
-use Rattle.pc_core.specs.declared.nodes.NodeKind.{NodeKind}
 use Rattle.pc_core.specs.declared.nodes.NodeKind.TheVariants as node
 use Rattle.pc_events.proofs.Plain.{Plain as Local, arguments_all, blind_plain, node_all, top_all}
-use Rattle.pc_heap.specs.Objects.{ObjectMap, class_at}
-use Rattle.pc_heap.specs.declared.value.Value.{Value}
-use Rattle.pc_heap.specs.declared.value.Value.TheVariants.{At}
-use Rattle.pc_lists.specs.Lists.{◌>>=◌}
+use Rattle.pc_heap.specs.{Objects.{ObjectMap, class_at}, declared.value.Value.Value, declared.value.Value.TheVariants.At}
+use Rattle.pc_base.specs.Lists.{◌>>=◌}
 use Rattle.pc_run_events.proofs.Access.{Plain, get_node, put_node}
 use Rattle.pc_run_events.specs.Sights.{method_called, name_called}
-use Rattle.pc_semantics.specs.Configurations.{Around, Move, Stuck, Overflows, Goes, Writes, Makes, Spawns, Enters, Sends, Leaves, value_entity, popped, with_stack, own_address, pop_arguments}
-use Rattle.pc_semantics.specs.Parts.{begin_new, enter, invoke_found, invoke_method, invoke_on, make_of, push_text, send, spawn_of, at_node}
-use Rattle.pc_semantics.specs.Calls.{invoke_kind, invoke_task, is_string, make_task, spawn_task, text_of}
-use Rattle.pc_semantics.specs.Safety.{touched_name}
-use Rattle.pc_semantics.specs.Step.{task_move}
-use Rattle.pc_semantics.specs.declared.frames.Frame.{Frame}
-use Rattle.pc_semantics.specs.declared.frames.Task.{Task}
+use Rattle.pc_semantics.specs.{Configurations.{Around, Move, Stuck, Overflows, Goes, Writes, Makes, Spawns, Enters, Sends, Leaves, value_entity, popped, with_stack, own_address, pop_arguments}, Parts.{begin_new, enter, invoke_found, invoke_method, invoke_on, make_of, push_text, send, spawn_of, at_node}, Calls.{invoke_kind, invoke_task, is_string, make_task, spawn_task, text_of}, Safety.touched_name, Step.task_move, declared.frames.Frame.Frame, declared.frames.Task.Task}
 use Rattle.pc_semantics.specs.declared.frames.Task.TheVariants as task
 
 -- Some method is one of this entity.

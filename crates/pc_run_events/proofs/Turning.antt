@@ -1,39 +1,16 @@
 -- A turn, by the results of its calls.
 use Rattle.std.specs.Prelude.{◌≡◌, ◌<◌, ℕ, suc, ◌+◌, List, [], length, get_or, Option, Some, slice_get}
-use Rattle.std.proofs.Common.{ap, sym, subst, ◌∙◌, arith}
-use Rattle.std.proofs.lemmas.Option.{none-some}
-use Rattle.pc_lists.proofs.Gets.{get_below}
+use Rattle.std.proofs.{Common.{ap, sym, subst, ◌∙◌, arith}, lemmas.Option.none-some}
+use Rattle.pc_base.proofs.Gets.{get_below}
 use Rattle.pc_core.specs.CoreData.{CoreData}
-use Rattle.pc_semantics.specs.Ahead.{ahead_of}
-use Rattle.pc_semantics.specs.Configurations.{Configuration, start}
-use Rattle.pc_semantics.specs.Step.{outcomes, step}
-use Rattle.pc_semantics.specs.Safety.{access}
-use Rattle.pc_semantics.specs.declared.access.Access.{Access}
-use Rattle.pc_semantics.specs.declared.ahead.Ahead.{Ahead}
+use Rattle.pc_semantics.specs.{Ahead.ahead_of, Configurations.{Configuration, start}, Step.{outcomes, step}, Safety.access, declared.access.Access.Access, declared.ahead.Ahead.Ahead, declared.outcome.Outcome.Outcome, declared.outcome.Outcome.TheVariants.{Moved, Skipped}}
 use Rattle.pc_semantics.specs.declared.ahead.Ahead.TheVariants as ahead
-use Rattle.pc_semantics.specs.declared.outcome.Outcome.{Outcome}
-use Rattle.pc_semantics.specs.declared.outcome.Outcome.TheVariants.{Moved, Skipped}
-use Rattle.pc_clocks.specs.Seats.{clock_of}
-use Rattle.pc_clocks.specs.declared.seat.Seat.{Seat}
+use Rattle.pc_clocks.specs.{Seats.clock_of, declared.seat.Seat.Seat}
 use Rattle.pc_events.specs.Before.{at_place, Event}
-use Rattle.pc_run_events.specs.Events.{AllEvents, SentAt, touches_in}
-use Rattle.pc_run_events.specs.Kept.{PostsKeep, Recorded, Under, first_posts}
-use Rattle.pc_run_events.specs.Sights.{sight}
-use Rattle.pc_run_events.specs.Turns.{HasRow, Posted, deed_after, noted_with, sent_by}
-use Rattle.pc_run_events.specs.declared.events.Deed.{Deed}
-use Rattle.pc_run_events.specs.declared.events.RunEvent.{RunEvent}
-use Rattle.pc_run_events.specs.declared.sight.Sight.{Sight}
-use Rattle.pc_run_events.proofs.Posting.{has_row, posts_at_start, posts_event, posts_rested, taken_at}
-use Rattle.pc_run_events.proofs.Recording.{recorded_event, recorded_rest, touches_event}
-use Rattle.pc_trace.specs.Keeps.{first_seats}
-use Rattle.pc_trace.specs.Noted.{Noted}
-use Rattle.pc_trace.specs.Reached.{Reached, noted_with as touched_with}
-use Rattle.pc_trace.specs.Traces.{RanOn}
-use Rattle.pc_trace.specs.Turns.{FollowsEvent}
-use Rattle.pc_trace.proofs.Covering.{number_there}
-use Rattle.pc_trace.proofs.Ends.{outcome_at}
-use Rattle.pc_trace.proofs.Keeping.{Behind, behind_event}
-use Rattle.pc_trace.proofs.Stepping.{all_reached, reached_start}
+use Rattle.pc_run_events.specs.{Events.{AllEvents, SentAt, touches_in}, Kept.{PostsKeep, Recorded, Under, first_posts}, Sights.sight, Turns.{HasRow, Posted, deed_after, noted_with, sent_by}, declared.events.Deed.Deed, declared.events.RunEvent.RunEvent, declared.sight.Sight.Sight}
+use Rattle.pc_run_events.proofs.{Posting.{has_row, posts_at_start, posts_event, posts_rested, taken_at}, Recording.{recorded_event, recorded_rest, touches_event}}
+use Rattle.pc_trace.specs.{Keeps.first_seats, Noted.Noted, Reached.{Reached, noted_with as touched_with}, Traces.RanOn, Turns.FollowsEvent}
+use Rattle.pc_trace.proofs.{Covering.number_there, Ends.outcome_at, Keeping.{Behind, behind_event}, Stepping.{all_reached, reached_start}}
 
 one_on : (n : ℕ) → suc n ≡ n + 1
 one_on n = omega arith

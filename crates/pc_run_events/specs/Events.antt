@@ -2,9 +2,9 @@
 use Rattle.std.specs.Prelude.{◌≡◌, ◌<◌, ℕ, zero, suc, List, [], ◌∷◌, length, Option, Some, None, slice_get}
 use Rattle.pc_core.specs.CoreData.{CoreData}
 use Rattle.pc_heap.specs.{Objects.class_at, declared.value.Address.Address}
-use Rattle.pc_lists.specs.Lists.{◌>>=◌, Each}
+use Rattle.pc_base.specs.Lists.{◌>>=◌, Each}
 use Rattle.pc_semantics.specs.{Ahead.ahead_of, Configurations.Configuration, Safety.access}
-use Rattle.pc_events.specs.{Before.at_place, Before.Event, Before.Carries, Before.waiting_for, Clock.Clocks}
+use Rattle.pc_events.specs.{Before.{at_place, Event, Carries, waiting_for}, Clock.Clocks}
 use Rattle.pc_run_events.specs.{declared.events.Deed.Deed, declared.events.RunEvent.RunEvent}
 use Rattle.pc_trace.specs.declared.touch.Touch.{Touch}
 use Rattle.pc_semantics.specs.declared.ahead.Ahead.TheVariants as ahead

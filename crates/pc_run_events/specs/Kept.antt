@@ -3,8 +3,8 @@ use Rattle.std.specs.Prelude.{◌≡◌, ◌<◌, ◌+◌, ℕ, zero, suc, List,
 use Rattle.pc_core.specs.CoreData.{CoreData}
 use Rattle.pc_semantics.specs.Configurations.{Configuration}
 use Rattle.pc_clocks.specs.declared.seat.Seat.{Seat}
-use Rattle.pc_events.specs.{Before.at_place, Before.Event, Before.taken_before, Before.waiting_for, Counting.Put}
-use Rattle.pc_run_events.specs.{Events.Does, Events.EventAt, Events.touches_in, declared.events.Deed.Deed, declared.events.RunEvent.RunEvent}
+use Rattle.pc_events.specs.{Before.{at_place, Event, taken_before, waiting_for}, Counting.Put}
+use Rattle.pc_run_events.specs.{Events.{Does, EventAt, touches_in}, declared.events.Deed.Deed, declared.events.RunEvent.RunEvent}
 use Rattle.pc_trace.specs.Reached.{Reached}
 
 -- The event at this place, counted from 1 and before place k, put message n into the mailbox of actor r; or none did.

@@ -1,12 +1,11 @@
 -- The events and the accesses of a run, as lines.
-use Rattle.std.specs.Prelude.{◌≡◌, ℕ, List, [], ◌++◌, Option, Some, IsSome, slice_get, codes, Bool, true, false, length, decimal, unwrap_or, flat_map}
+use Rattle.std.specs.{Prelude.{◌≡◌, ℕ, List, [], ◌++◌, Option, Some, IsSome, slice_get, codes, Bool, true, false, length, decimal, unwrap_or, flat_map}, Option.option_map_or}
 use Rattle.pc_core.specs.{CoreData.CoreData, declared.declarations.EntityDef.EntityDef, declared.declarations.Method.Method}
-use Rattle.pc_lists.specs.Lists.{Each, Text, line_end, separated}
+use Rattle.pc_base.specs.Lists.{Each, Text, line_end, separated}
 use Rattle.pc_run_events.specs.{declared.events.Deed.Deed, declared.events.RunEvent.RunEvent, Events.touches_in}
 use Rattle.pc_heap.specs.declared.value.Address.{Address}
 use Rattle.pc_semantics.specs.declared.access.Access.{Access}
 use Rattle.pc_trace.specs.declared.touch.Touch.{Touch}
-use Rattle.std.specs.Option.{option_map_or}
 use Rattle.pc_run_events.specs.declared.events.Deed.TheVariants as deed
 
 -- What does not exist has no name.

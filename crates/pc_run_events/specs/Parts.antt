@@ -1,7 +1,7 @@
 -- Further words on events, for contracts of code.
 use Rattle.std.specs.Prelude.{Bool, true, false, ℕ, List, [], ◌++◌, Option, unwrap_or, flat_map, codes, decimal}
-use Rattle.pc_run_events.specs.{declared.events.Deed.Deed, declared.events.RunEvent.RunEvent, Lines.event_line, Lines.touch_line}
-use Rattle.pc_lists.specs.Lists.{Text, separated}
+use Rattle.pc_run_events.specs.{declared.events.Deed.Deed, declared.events.RunEvent.RunEvent, Lines.{event_line, touch_line}}
+use Rattle.pc_base.specs.Lists.{Text, separated}
 use Rattle.pc_core.specs.CoreData.{CoreData}
 use Rattle.pc_trace.specs.declared.touch.Touch.{Touch}
 use Rattle.pc_run_events.specs.declared.events.Deed.TheVariants as deed

@@ -1,10 +1,9 @@
 -- What is known of a step before it is made.
-use Rattle.std.specs.Prelude.{ℕ, length, Option, Some, None, slice_get}
-use Rattle.std.specs.FinMap.{len}
-use Rattle.pc_core.specs.{CoreData.CoreData, CoreData.method_named, declared.nodes.NodeKind.NodeKind}
+use Rattle.std.specs.{Prelude.{ℕ, length, Option, Some, None, slice_get}, FinMap.len}
+use Rattle.pc_core.specs.{CoreData.{CoreData, method_named}, declared.nodes.NodeKind.NodeKind}
 use Rattle.pc_heap.specs.Objects.{ObjectMap, class_at}
-use Rattle.pc_lists.specs.Lists.{◌>>=◌}
-use Rattle.pc_semantics.specs.{Ahead.ahead_of, Configurations.Configuration, Configurations.own_address, Safety.access, declared.ahead.Ahead.Ahead, declared.frames.Task.Task}
+use Rattle.pc_base.specs.Lists.{◌>>=◌}
+use Rattle.pc_semantics.specs.{Ahead.ahead_of, Configurations.{Configuration, own_address}, Safety.access, declared.ahead.Ahead.Ahead, declared.frames.Task.Task}
 use Rattle.pc_run_events.specs.{Events.method_waiting, declared.sight.Sight.Sight}
 use Rattle.pc_core.specs.declared.nodes.NodeKind.TheVariants as node
 use Rattle.pc_semantics.specs.declared.ahead.Ahead.TheVariants as ahead

@@ -1,10 +1,9 @@
 -- A turn of a run: what its step does, and how it changes the places at which waiting messages were sent.
-use Rattle.std.specs.Prelude.{◌≡◌, ◌<◌, ℕ, if◌then◌else◌, nat_lt, List, [], ◌∷◌, ◌++◌, drop, length, Option, Some, None, slice_get}
-use Rattle.std.specs.FinMap.{len}
+use Rattle.std.specs.{Prelude.{◌≡◌, ◌<◌, ℕ, if◌then◌else◌, nat_lt, List, [], ◌∷◌, ◌++◌, drop, length, Option, Some, None, slice_get}, FinMap.len}
 use Rattle.pc_heap.specs.{Objects.class_at, declared.value.Address.Address}
-use Rattle.pc_lists.specs.Lists.{◌>>=◌}
-use Rattle.pc_semantics.specs.{Configurations.Configuration, Configurations.address_of, declared.access.Access.Access, declared.ahead.Ahead.Ahead}
-use Rattle.pc_run_events.specs.{Events.method_waiting, Posts.RowAt, Posts.first_of, declared.events.Deed.Deed, declared.events.RunEvent.RunEvent, declared.sight.Sight.Sight}
+use Rattle.pc_base.specs.Lists.{◌>>=◌}
+use Rattle.pc_semantics.specs.{Configurations.{Configuration, address_of}, declared.access.Access.Access, declared.ahead.Ahead.Ahead}
+use Rattle.pc_run_events.specs.{Events.method_waiting, Posts.{RowAt, first_of}, declared.events.Deed.Deed, declared.events.RunEvent.RunEvent, declared.sight.Sight.Sight}
 use Rattle.pc_semantics.specs.declared.ahead.Ahead.TheVariants as ahead
 use Rattle.pc_run_events.specs.declared.events.Deed.TheVariants as deed
 

@@ -1,6 +1,6 @@
 //! The events of a run.
 
-use pc_caps::List;
+use pc_base::List;
 use pc_heap::Address;
 use pc_semantics::Access;
 

@@ -8,7 +8,7 @@ ghost use Rattle.pc_run_events.specs.Lines.{method_text};
 use crate::events::{Deed, RunEvent};
 use crate::method_names::{push_entity, push_method};
 use itoa::Buffer;
-use pc_caps::List;
+use pc_base::List;
 use pc_core::Core;
 use pc_heap::Address;
 use pc_semantics::Access;

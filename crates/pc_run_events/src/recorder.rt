@@ -13,7 +13,7 @@ use crate::deeds::deed_after;
 use crate::events::{Deed, RunEvent};
 use crate::posts::Posts;
 use crate::sight::look;
-use pc_caps::List;
+use pc_base::List;
 use pc_clocks::Seats;
 use pc_core::Core;
 use pc_machine::{Machine, start};

@@ -10,7 +10,7 @@ ghost use Rattle.pc_trace.specs.declared.touch.Verdict.TheVariants.{Ordered};
 
 use crate::events::RunEvent;
 use crate::recorder::recorded;
-use pc_caps::List;
+use pc_base::List;
 use pc_core::Core;
 use pc_trace::{AcceptedFault, TraceFault};
 use std::alloc::Global;

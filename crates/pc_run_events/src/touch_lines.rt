@@ -4,7 +4,7 @@ ghost use Rattle.pc_run_events.specs.Lines as spec;
 ghost use Rattle.pc_run_events.specs.Parts as parts;
 
 use crate::lines::{kind_of, push_clock};
-use pc_caps::List;
+use pc_base::List;
 use pc_trace::Touch;
 use std::alloc::{AllocError, Global};
 

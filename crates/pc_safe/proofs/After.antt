@@ -3,12 +3,9 @@ use Rattle.std.specs.Prelude.{ℕ, List, Result, Ok, Err}
 use Rattle.std.proofs.Common.{sym, subst}
 use Rattle.pc_core.specs.CoreData.{CoreData}
 use Rattle.pc_machine.specs.Machines.{MachineData}
-use Rattle.pc_semantics.specs.Configurations.{Configuration}
-use Rattle.pc_semantics.specs.Safety.{Race, Quiet, Safe}
-use Rattle.pc_list_steps.specs.declared.fault.StepsFault.{StepsFault}
-use Rattle.pc_list_steps.specs.declared.fault.StepsFault.TheVariants.{TooLong, Memory}
+use Rattle.pc_semantics.specs.{Configurations.Configuration, Safety.{Race, Quiet, Safe}}
+use Rattle.pc_list_steps.specs.{declared.fault.StepsFault.StepsFault, declared.fault.StepsFault.TheVariants.{TooLong, Memory}, Ends.{IsMachineAfter, RunEnds}}
 use Rattle.pc_safe.specs.Apart.{IsRaceFreeAndQuiet, EndsApart}
-use Rattle.pc_list_steps.specs.Ends.{IsMachineAfter, RunEnds}
 
 after_apart : (core : CoreData) (list : List ℕ) (machine : MachineData) → Safe core → IsMachineAfter core list machine → IsRaceFreeAndQuiet core machine
 after_apart core list machine safe is =

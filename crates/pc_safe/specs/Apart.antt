@@ -3,7 +3,7 @@ use Rattle.std.specs.Prelude.{Result, MatchResult}
 use Rattle.pc_core.specs.CoreData.{CoreData}
 use Rattle.pc_machine.specs.Machines.{MachineData}
 use Rattle.pc_semantics.specs.Safety.{Race, Quiet}
-use Rattle.pc_list_steps.specs.{declared.fault.StepsFault.StepsFault, declared.fault.StepsFault.TheVariants.TooLong, declared.fault.StepsFault.TheVariants.Memory}
+use Rattle.pc_list_steps.specs.{declared.fault.StepsFault.StepsFault, declared.fault.StepsFault.TheVariants.{TooLong, Memory}}
 
 -- The machine's configuration has no race, and is quiet.
 abbrev pub IsRaceFreeAndQuiet : CoreData → MachineData → Type 0

@@ -1,12 +1,9 @@
 -- A text is cut into pieces in only one way, and they spell only one list of turns.
 use Rattle.std.proofs.Common.{◌≡◌, ℕ, ◌+◌, ◌<◌, ◌≤◌, List, [], ◌∷◌, ◌++◌, length, get_or, drop, refl, sym, ap, ap₂, ◌∙◌, subst, inl, inr, ◌⊎◌, arith, length-append}
 use Rattle.std.specs.List.{prefix_len}
-use Rattle.pc_sched.specs.declared.turns.Turn.{Turn}
-use Rattle.pc_sched.specs.Schedules.{no_blank, SchedulePiece, blank, word, piece_bytes, IsSchedulePiece, SchedulePieces, SpellsTurn, SpelledTurns, total, Turns, turn_limit}
-use Rattle.pc_sched.proofs.Runs.{end_none}
-use Rattle.pc_lists.proofs.Prefixes.{run_app}
-use Rattle.pc_sched.proofs.TurnReading.{turn_one}
-use Rattle.pc_lists.proofs.Cuts.{same_cut}
+use Rattle.pc_sched.specs.{declared.turns.Turn.Turn, Schedules.{no_blank, SchedulePiece, blank, word, piece_bytes, IsSchedulePiece, SchedulePieces, SpellsTurn, SpelledTurns, total, Turns, turn_limit}}
+use Rattle.pc_sched.proofs.{Runs.end_none, TurnReading.turn_one}
+use Rattle.pc_base.proofs.{Prefixes.run_app, Cuts.same_cut}
 
 word_run : (b r : List ℕ) → IsSchedulePiece (word b) r → prefix_len no_blank (b ++ r) ≡ length b
 word_run b r h = omega (arith, run_app no_blank b r h.1, end_none r h.2)

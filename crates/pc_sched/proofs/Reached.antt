@@ -1,18 +1,10 @@
 -- The pieces that have been read.
-use Rattle.std.proofs.Common.{◌≡◌, ℕ, ◌+◌, ◌<◌, ◌≤◌, List, [], ◌∷◌, ◌++◌, length, get_or, drop, Some, refl, sym, ap, ◌∙◌, ap₂, subst, inl, inr, arith, take-append-drop, drop-drop, length-drop}
-use Rattle.std.proofs.lemmas.List.{drop_all, drop_more}
-use Rattle.std.proofs.lemmas.List.Sums.{prefix_len-le-length}
-use Rattle.std.proofs.lemmas.List.Folds.{length-prefix_len}
+use Rattle.std.proofs.{Common.{◌≡◌, ℕ, ◌+◌, ◌<◌, ◌≤◌, List, [], ◌∷◌, ◌++◌, length, get_or, drop, Some, refl, sym, ap, ◌∙◌, ap₂, subst, inl, inr, arith, take-append-drop, drop-drop, length-drop}, lemmas.List.{drop_all, drop_more}, lemmas.List.Sums.prefix_len-le-length, lemmas.List.Folds.length-prefix_len}
 use Rattle.std.specs.List.{prefix_len}
-use Rattle.pc_sched.specs.declared.turns.Turn.{Turn}
-use Rattle.pc_sched.specs.declared.fault.SchedFault.{SchedFault}
+use Rattle.pc_sched.specs.{declared.turns.Turn.Turn, declared.fault.SchedFault.SchedFault, Schedules.{turn_limit, no_blank, SchedulePiece, blank, word, piece_bytes, IsSchedulePiece, SchedulePieces, SpellsTurn, SpelledTurns, total, TurnList, WordAt}, Reading.{turn_of, word_at, Steps, Stuck}, Answers.RefusesSchedule}
 use Rattle.pc_sched.specs.declared.fault.SchedFault.TheVariants as fault
-use Rattle.pc_sched.specs.Schedules.{turn_limit, no_blank, SchedulePiece, blank, word, piece_bytes, IsSchedulePiece, SchedulePieces, SpellsTurn, SpelledTurns, total, TurnList, WordAt}
-use Rattle.pc_sched.specs.Reading.{turn_of, word_at, Steps, Stuck}
-use Rattle.pc_sched.specs.Answers.{RefusesSchedule}
-use Rattle.pc_sched.proofs.Runs.{run_ends, first_blank}
-use Rattle.pc_lists.proofs.Prefixes.{run_all}
-use Rattle.pc_sched.proofs.TurnReading.{turn_sound, no_turn}
+use Rattle.pc_sched.proofs.{Runs.{run_ends, first_blank}, TurnReading.{turn_sound, no_turn}}
+use Rattle.pc_base.proofs.Prefixes.{run_all}
 
 pub record Sofar (text : List ℕ) (at count : ℕ) (turns : List Turn) : Type 0 where
   pub pieces : List SchedulePiece

@@ -1,10 +1,8 @@
 -- Runs of bytes.
-use Rattle.std.proofs.Common.{◌≡◌, ℕ, suc, ◌+◌, ◌≤◌, Bool, true, false, cond, List, [], ◌∷◌, length, drop, refl, subst, arith}
-use Rattle.std.proofs.lemmas.Bool.{not-false}
-use Rattle.std.proofs.lemmas.List.{take_all}
+use Rattle.std.proofs.{Common.{◌≡◌, ℕ, suc, ◌+◌, ◌≤◌, Bool, true, false, cond, List, [], ◌∷◌, length, drop, refl, subst, arith}, lemmas.Bool.not-false, lemmas.List.take_all}
 use Rattle.std.specs.List.{prefix_len, list_all}
 use Rattle.pc_sched.specs.Schedules.{is_separator, no_blank, AtWordEnd}
-use Rattle.pc_lists.proofs.Prefixes.{run_all}
+use Rattle.pc_base.proofs.Prefixes.{run_all}
 
 pub run_whole : (p : ℕ → Bool) (xs : List ℕ) → length xs ≤ prefix_len p xs → list_all p xs ≡ true
 run_whole p xs whole = subst (λ l. list_all p l ≡ true) (take_all (prefix_len p xs) xs whole) (run_all p xs)

@@ -1,17 +1,9 @@
 -- A text spells turns within the limit or has a first fault, and not both.
-use Rattle.std.proofs.Common.{◌≡◌, ℕ, zero, suc, ◌+◌, ◌-◌, ◌<◌, ◌≤◌, List, [], ◌∷◌, ◌++◌, length, drop, Option, Some, None, Result, Ok, Err, IfOk, refl, sym, ap, ap₂, subst, inl, inr, ◌⊎◌, arith}
-use Rattle.std.specs.Prelude.{IfErr}
-use Rattle.std.proofs.lemmas.Bool.{cases_lt}
-use Rattle.std.specs.List.{prefix_len}
-use Rattle.pc_sched.specs.declared.turns.Turn.{Turn}
-use Rattle.pc_sched.specs.declared.fault.SchedFault.{SchedFault}
+use Rattle.std.proofs.{Common.{◌≡◌, ℕ, zero, suc, ◌+◌, ◌-◌, ◌<◌, ◌≤◌, List, [], ◌∷◌, ◌++◌, length, drop, Option, Some, None, Result, Ok, Err, IfOk, refl, sym, ap, ap₂, subst, inl, inr, ◌⊎◌, arith}, lemmas.Bool.cases_lt}
+use Rattle.std.specs.{Prelude.IfErr, List.prefix_len}
+use Rattle.pc_sched.specs.{declared.turns.Turn.Turn, declared.fault.SchedFault.SchedFault, Schedules.{turn_limit, no_blank, SpellsTurn, total, TurnList, WordAt, FirstScheduleFault}, Reading.{turn_of, word_at, Steps}, Answers.{RefusesSchedule, AnswersSchedule}}
 use Rattle.pc_sched.specs.declared.fault.SchedFault.TheVariants as fault
-use Rattle.pc_sched.specs.Schedules.{turn_limit, no_blank, SpellsTurn, total, TurnList, WordAt, FirstScheduleFault}
-use Rattle.pc_sched.specs.Reading.{turn_of, word_at, Steps}
-use Rattle.pc_sched.specs.Answers.{RefusesSchedule, AnswersSchedule}
-use Rattle.pc_sched.proofs.TurnReading.{turn_one}
-use Rattle.pc_sched.proofs.OneCut.{turns_one, through, Meet, meet, Passes, passes}
-use Rattle.pc_sched.proofs.Reached.{Sofar, starts_so, goes_on, nearer, ends_so, stuck_so}
+use Rattle.pc_sched.proofs.{TurnReading.turn_one, OneCut.{turns_one, through, Meet, meet, Passes, passes}, Reached.{Sofar, starts_so, goes_on, nearer, ends_so, stuck_so}}
 
 -- a word at a place, with which there is no list within the limit
 record Stopped (text : List ℕ) (at : ℕ) (turns : List Turn) (b : List ℕ) : Type 0 where

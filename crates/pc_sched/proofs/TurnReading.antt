@@ -1,17 +1,9 @@
 -- What is read from a word is what it spells.
-use Rattle.std.proofs.Common.{◌≡◌, ℕ, ◌<◌, ◌≤◌, ◌^◌, ◌==◌, ◌||◌, Bool, true, false, cond, List, [], ◌∷◌, ◌++◌, length, take, drop, Option, Some, None, refl, sym, ap, ap₂, ◌∙◌, subst, inl, inr, arith, take_at, drop_at, take-append-drop, append-nil}
-use Rattle.std.specs.Prelude.{nat_lt}
-use Rattle.std.proofs.lemmas.Bool.{eqb-true}
-use Rattle.std.proofs.lemmas.Bool.Decides.{nat_tests}
-use Rattle.std.proofs.lemmas.List.{take_all, drop_all}
-use Rattle.std.specs.List.{prefix_len, list_all}
-use Rattle.std.specs.Char.{is_ascii_digit}
-use Rattle.pc_sched.specs.declared.turns.Turn.{Turn}
-use Rattle.pc_sched.specs.Schedules.{decimal_value, Number, SpellsTurn}
-use Rattle.pc_sched.specs.Reading.{no_digits, below, number_of, turn_with, turn_at, turn_of}
+use Rattle.std.proofs.{Common.{◌≡◌, ℕ, ◌<◌, ◌≤◌, ◌^◌, ◌==◌, ◌||◌, Bool, true, false, cond, List, [], ◌∷◌, ◌++◌, length, take, drop, Option, Some, None, refl, sym, ap, ap₂, ◌∙◌, subst, inl, inr, arith, take_at, drop_at, take-append-drop, append-nil}, lemmas.Bool.eqb-true, lemmas.Bool.Decides.nat_tests, lemmas.List.{take_all, drop_all}, lemmas.Option.{none-some, same_Some}}
+use Rattle.std.specs.{Prelude.nat_lt, List.{prefix_len, list_all}, Char.is_ascii_digit}
+use Rattle.pc_sched.specs.{declared.turns.Turn.Turn, Schedules.{decimal_value, Number, SpellsTurn}, Reading.{no_digits, below, number_of, turn_with, turn_at, turn_of}}
 use Rattle.pc_sched.proofs.Runs.{run_whole}
-use Rattle.pc_lists.proofs.Prefixes.{run_app}
-use Rattle.std.proofs.lemmas.Option.{none-some, same_Some}
+use Rattle.pc_base.proofs.Prefixes.{run_app}
 
 -- all digits are read
 all_read : (b : List ℕ) → list_all is_ascii_digit b ≡ true → prefix_len is_ascii_digit b ≡ length b

@@ -1,6 +1,5 @@
 -- The value of digits, one after the other.
-use Rattle.std.proofs.Common.{◌≡◌, ℕ, ◌+◌, ◌-◌, ◌*◌, ◌<◌, ◌≤◌, List, [], ◌∷◌, length, get_or, drop, ap, arith}
-use Rattle.std.proofs.lemmas.List.{drop_more, drop_all}
+use Rattle.std.proofs.{Common.{◌≡◌, ℕ, ◌+◌, ◌-◌, ◌*◌, ◌<◌, ◌≤◌, List, [], ◌∷◌, length, get_or, drop, ap, arith}, lemmas.List.{drop_more, drop_all}}
 use Rattle.pc_sched.specs.Schedules.{decimal_value}
 
 pub value_at : (digits : List ℕ) (i acc : ℕ) → i < length digits → decimal_value acc (drop i digits) ≡ decimal_value (acc * 10 + (get_or digits i 0 - 48)) (drop (i + 1) digits)

@@ -1,6 +1,6 @@
 -- The laws of turns and faults.
 use Rattle.std.specs.Prelude.{◌≡◌, ℕ, List, ◌⊎◌}
-use Rattle.pc_sched.specs.{declared.turns.Turn.Turn, declared.fault.SchedFault.SchedFault, Schedules.Turns, Schedules.TurnList, Schedules.FirstScheduleFault}
+use Rattle.pc_sched.specs.{declared.turns.Turn.Turn, declared.fault.SchedFault.SchedFault, Schedules.{Turns, TurnList, FirstScheduleFault}}
 
 -- A text spells at most one list of turns.
 abbrev pub OneList : Type 0

@@ -1,7 +1,6 @@
 -- How the first piece of a text is read.
-use Rattle.std.specs.Prelude.{◌≡◌, ℕ, ◌+◌, ◌^◌, ◌<◌, ◌≤◌, nat_lt, Bool, ◌||◌, ◌==◌, List, [], ◌∷◌, ◌++◌, length, take, drop, Option, Some, None, if◌then◌else◌, ⊤, ◌⊎◌}
-use Rattle.std.specs.{List.prefix_len, Char.is_ascii_digit}
-use Rattle.pc_sched.specs.{declared.turns.Turn.Turn, declared.fault.SchedFault.SchedFault, Schedules.turn_limit, Schedules.no_blank, Schedules.decimal_value}
+use Rattle.std.specs.{Prelude.{◌≡◌, ℕ, ◌+◌, ◌^◌, ◌<◌, ◌≤◌, nat_lt, Bool, ◌||◌, ◌==◌, List, [], ◌∷◌, ◌++◌, length, take, drop, Option, Some, None, if◌then◌else◌, ⊤, ◌⊎◌}, List.prefix_len, Char.is_ascii_digit}
+use Rattle.pc_sched.specs.{declared.turns.Turn.Turn, declared.fault.SchedFault.SchedFault, Schedules.{turn_limit, no_blank, decimal_value}}
 use Rattle.pc_sched.specs.declared.fault.SchedFault.TheVariants as fault
 
 abbrev pub below : ℕ → Option ℕ

@@ -10,7 +10,7 @@ ghost use Rattle.pc_sched.specs.Answers.{RefusesSchedule, AnswersSchedule};
 
 use crate::fault::SchedFault;
 use crate::turns::{Turn, turn_of};
-use pc_caps::List;
+use pc_base::List;
 use std::alloc::Global;
 
 /// How many turns a schedule may have.

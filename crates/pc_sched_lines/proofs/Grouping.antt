@@ -1,11 +1,8 @@
 -- A row goes on, or another begins after it.
-use Rattle.std.proofs.Common.{◌≡◌, ◌≢◌, ◌<◌, ◌≤◌, ◌+◌, ◌^◌, ℕ, List, [], ◌∷◌, ◌++◌, length, take, get_or, refl, sym, ap, ◌∙◌, subst, arith}
-use Rattle.std.proofs.lemmas.List.{length-take-le, take_more}
+use Rattle.std.proofs.{Common.{◌≡◌, ◌≢◌, ◌<◌, ◌≤◌, ◌+◌, ◌^◌, ℕ, List, [], ◌∷◌, ◌++◌, length, take, get_or, refl, sym, ap, ◌∙◌, subst, arith}, lemmas.List.{length-take-le, take_more}}
 use Rattle.std.specs.List.{AllByRecursion}
-use Rattle.pc_sched.specs.declared.turns.Turn.{Turn}
-use Rattle.pc_sched.specs.Schedules.{turn_limit}
-use Rattle.pc_sched_lines.specs.Lines.{AreRows, HasOtherActor}
-use Rattle.pc_sched_lines.specs.Rows.{Fits, RowsOf}
+use Rattle.pc_sched.specs.{declared.turns.Turn.Turn, Schedules.turn_limit}
+use Rattle.pc_sched_lines.specs.{Lines.{AreRows, HasOtherActor}, Rows.{Fits, RowsOf}}
 use Rattle.pc_sched_lines.proofs.Spreads.{last_within, spread_longer, spread_push}
 
 -- ---- the last row is longer

@@ -1,9 +1,7 @@
 -- A list of steps has only one line.
-use Rattle.std.proofs.Common.{◌≡◌, ◌<◌, ℕ, zero, suc, cond, nat_eq, List, [], ◌∷◌, ◌++◌, replicate, refl, sym, ap, ◌∙◌, arith}
-use Rattle.std.proofs.lemmas.Bool.{eq-eqb, ne_eqb}
+use Rattle.std.proofs.{Common.{◌≡◌, ◌<◌, ℕ, zero, suc, cond, nat_eq, List, [], ◌∷◌, ◌++◌, replicate, refl, sym, ap, ◌∙◌, arith}, lemmas.Bool.{eq-eqb, ne_eqb}}
 use Rattle.pc_sched.specs.declared.turns.Turn.{Turn}
-use Rattle.pc_sched_lines.specs.Rows.{LinesAreOne}
-use Rattle.pc_sched_lines.specs.Lines.{line_of, AreRows, HasOtherActor}
+use Rattle.pc_sched_lines.specs.{Rows.LinesAreOne, Lines.{line_of, AreRows, HasOtherActor}}
 use Rattle.pc_run.specs.Spreading.{spread}
 
 -- the rows of a list, with one step more in front

@@ -1,17 +1,8 @@
 -- The line of turns is a schedule that spells them.
-use Rattle.std.proofs.Common.{rules, ◌≡◌, ◌≤◌, ◌<◌, ◌^◌, ℕ, Bool, true, false, List, [], ◌∷◌, ◌++◌, length, refl, sym, ap, ◌∙◌, subst, inl, inr, arith, length-append, nat_eq}
-use Rattle.std.specs.Prelude.{if◌then◌else◌, decimal}
-use Rattle.std.specs.Char.{is_ascii_digit}
-use Rattle.std.specs.List.{AllByRecursion, list_all}
-use Rattle.std.proofs.lemmas.Fmt.{digits_decimal, digits_value-decimal, length-decimal-le, decimal_nonempty}
-use Rattle.std.proofs.lemmas.Bool.{and_from, and_parts, eqb-true}
-use Rattle.std.proofs.lemmas.Bool.Decides.{nat_tests}
-use Rattle.std.proofs.lemmas.List.Folds.{list_all-append}
-use Rattle.std.proofs.lemmas.Str.Parse.{IsNumeralModel, numerals_by_fold}
-use Rattle.pc_sched.specs.declared.turns.Turn.{Turn}
-use Rattle.pc_sched.specs.Schedules.{turn_limit, AtWordEnd, IsSchedulePiece, Number, SchedulePiece, SchedulePieces, SpelledTurns, SpellsTurn, TurnList, blank, no_blank, total, decimal_value, word}
-use Rattle.pc_sched_lines.specs.Lines.{IsLine, line_of, turn_word, more_words}
-use Rattle.pc_sched_lines.specs.Rows.{Fits, RowsOf}
+use Rattle.std.proofs.{Common.{rules, ◌≡◌, ◌≤◌, ◌<◌, ◌^◌, ℕ, Bool, true, false, List, [], ◌∷◌, ◌++◌, length, refl, sym, ap, ◌∙◌, subst, inl, inr, arith, length-append, nat_eq}, lemmas.Fmt.{digits_decimal, digits_value-decimal, length-decimal-le, decimal_nonempty}, lemmas.Bool.{and_from, and_parts, eqb-true}, lemmas.Bool.Decides.nat_tests, lemmas.List.Folds.list_all-append, lemmas.Str.Parse.{IsNumeralModel, numerals_by_fold}}
+use Rattle.std.specs.{Prelude.{if◌then◌else◌, decimal}, Char.is_ascii_digit, List.{AllByRecursion, list_all}}
+use Rattle.pc_sched.specs.{declared.turns.Turn.Turn, Schedules.{turn_limit, AtWordEnd, IsSchedulePiece, Number, SchedulePiece, SchedulePieces, SpelledTurns, SpellsTurn, TurnList, blank, no_blank, total, decimal_value, word}}
+use Rattle.pc_sched_lines.specs.{Lines.{IsLine, line_of, turn_word, more_words}, Rows.{Fits, RowsOf}}
 use Rattle.pc_sched_lines.proofs.Spreads.{length-spread}
 
 -- ---- numbers

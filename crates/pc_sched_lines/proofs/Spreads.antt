@@ -1,8 +1,6 @@
 -- The steps of turns, one after another.
-use Rattle.std.proofs.Common.{◌≡◌, ◌≤◌, ℕ, ◌+◌, List, [], ◌∷◌, ◌++◌, length, replicate, refl, sym, ap, ◌∙◌, arith, append_assoc, append-nil, length-append}
-use Rattle.std.proofs.lemmas.List.{length-replicate, replicate_more}
-use Rattle.pc_sched.specs.declared.turns.Turn.{Turn}
-use Rattle.pc_sched.specs.Schedules.{total}
+use Rattle.std.proofs.{Common.{◌≡◌, ◌≤◌, ℕ, ◌+◌, List, [], ◌∷◌, ◌++◌, length, replicate, refl, sym, ap, ◌∙◌, arith, append_assoc, append-nil, length-append}, lemmas.List.{length-replicate, replicate_more}}
+use Rattle.pc_sched.specs.{declared.turns.Turn.Turn, Schedules.total}
 use Rattle.pc_run.specs.Spreading.{spread}
 
 pub spread_app : (xs ys : List Turn) → spread (xs ++ ys) ≡ spread xs ++ spread ys

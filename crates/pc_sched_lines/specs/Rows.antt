@@ -1,6 +1,5 @@
 -- Steps as rows of turns, which the code writes one by one.
-use Rattle.std.specs.Prelude.{◌≡◌, ℕ, ◌<◌, ◌^◌, List}
-use Rattle.std.specs.List.{AllByRecursion}
+use Rattle.std.specs.{Prelude.{◌≡◌, ℕ, ◌<◌, ◌^◌, List}, List.AllByRecursion}
 use Rattle.pc_sched.specs.declared.turns.Turn.{Turn}
 use Rattle.pc_run.specs.Spreading.{spread}
 use Rattle.pc_sched_lines.specs.Lines.{AreRows, IsLine}

@@ -5,7 +5,7 @@ ghost use Rattle.pc_sched_lines.specs.Lines.{IsLine};
 ghost use Rattle.pc_sched.specs.Schedules.{turn_limit};
 
 use crate::rows::rows_of;
-use pc_caps::List;
+use pc_base::List;
 use pc_sched::Turn;
 use std::alloc::{AllocError, Global};
 

@@ -3,7 +3,7 @@ ghost use Rattle.std.specs.Prelude.{◌≡◌, ◌++◌, ◌∷◌, [], ◌+◌,
 ghost use Rattle.pc_sched_lines.specs.Rows.{RowsOf};
 ghost use Rattle.pc_sched.specs.Schedules.{turn_limit};
 
-use pc_caps::List;
+use pc_base::List;
 use pc_sched::Turn;
 use std::alloc::{AllocError, Global};
 

@@ -2,7 +2,7 @@
 ghost use Rattle.std.specs.Prelude.{◌≡◌, ◌++◌, replicate, IfOk, OnOk};
 ghost use Rattle.pc_run.specs.Spreading.{spread};
 
-use pc_caps::List;
+use pc_base::List;
 use pc_sched::Turn;
 use std::alloc::{AllocError, Global};
 

@@ -1,27 +1,10 @@
 -- The small programs, computed. If a step looks at objects, the laws of maps determine what is there.
-use Rattle.pc_semantics.proofs.Maps.{get_inserted, gets, counts, makes}
-use Rattle.pc_semantics.proofs.Parts.{text_is, Leads, then_run, then_moves}
-use Rattle.std.specs.Prelude.{◌≡◌, ℕ, zero, suc, Bool, true, false, List, [], ◌∷◌, ◌++◌, length, replicate, Some, codes, refl}
-use Rattle.std.specs.Fmt.{digits}
-use Rattle.std.specs.FinMap.{get, insert, len}
-use Rattle.std.proofs.Common.{inl, inr, ap, sym, ◌∙◌, arith}
-use Rattle.std.proofs.lemmas.Option.{same_Some, none-some}
-use Rattle.pc_heap.specs.Objects.{ObjectMap, with_field, made_by, Object}
-use Rattle.pc_heap.specs.declared.value.Address.{Address}
-use Rattle.pc_heap.specs.declared.value.Value.TheVariants.{At, Text, Num}
-use Rattle.pc_heap.specs.declared.value.Value.{Value}
-use Rattle.pc_semantics.specs.declared.frames.Frame.{Frame}
-use Rattle.pc_semantics.specs.declared.frames.Task.{Task}
+use Rattle.pc_semantics.proofs.{Maps.{get_inserted, gets, counts, makes}, Parts.{text_is, Leads, then_run, then_moves}}
+use Rattle.std.specs.{Prelude.{◌≡◌, ℕ, zero, suc, Bool, true, false, List, [], ◌∷◌, ◌++◌, length, replicate, Some, codes, refl}, Fmt.digits, FinMap.{get, insert, len}}
+use Rattle.std.proofs.{Common.{inl, inr, ap, sym, ◌∙◌, arith}, lemmas.Option.{same_Some, none-some}}
+use Rattle.pc_heap.specs.{Objects.{ObjectMap, with_field, made_by, Object}, declared.value.Address.Address, declared.value.Value.TheVariants.{At, Text, Num}, declared.value.Value.Value}
+use Rattle.pc_semantics.specs.{declared.frames.Frame.Frame, declared.frames.Task.Task, declared.mailbox.Message.Message, declared.outcome.Outcome.TheVariants.{Moved, Skipped}, Configurations.{Configuration, start, own_address, environment_address, environment, blank_object, none}, Step.{after, outcomes, run_from, outcomes_from}, Text.{steps_of, waiting}, Programs.{hello, two_messages, making, touching}, Examples.{HelloRuns, NoActorNoStep, TakenInOrder, SpawnedHasItsMessage, ConstructorSets, LazyRight, BranchTaken, WhileTwice, Wraps, EachLackComes, TextTooLong, RacesAreSeen, both_about_to}, Safety.access, declared.access.Access.Access}
 use Rattle.pc_semantics.specs.declared.frames.Task.TheVariants as task
-use Rattle.pc_semantics.specs.declared.mailbox.Message.{Message}
-use Rattle.pc_semantics.specs.declared.outcome.Outcome.TheVariants.{Moved, Skipped}
-use Rattle.pc_semantics.specs.Configurations.{Configuration, start, own_address, environment_address, environment, blank_object, none}
-use Rattle.pc_semantics.specs.Step.{after, outcomes, run_from, outcomes_from}
-use Rattle.pc_semantics.specs.Text.{steps_of, waiting}
-use Rattle.pc_semantics.specs.Programs.{hello, two_messages, making, touching}
-use Rattle.pc_semantics.specs.Examples.{HelloRuns, NoActorNoStep, TakenInOrder, SpawnedHasItsMessage, ConstructorSets, LazyRight, BranchTaken, WhileTwice, Wraps, EachLackComes, TextTooLong, RacesAreSeen, both_about_to}
-use Rattle.pc_semantics.specs.Safety.{access}
-use Rattle.pc_semantics.specs.declared.access.Access.{Access}
 
 -- ---- runs in which no step looks at an object
 

@@ -1,9 +1,7 @@
 -- Lists seen from their ends.
-use Rattle.std.proofs.Common.{◌≡◌, ℕ, zero, suc, ◌-◌, ◌<◌, ◌≤◌, List, [], ◌∷◌, ◌++◌, Some, length, set, take, drop, refl, sym, ap, ◌∙◌, inl, inr, arith}
+use Rattle.std.proofs.{Common.{◌≡◌, ℕ, zero, suc, ◌-◌, ◌<◌, ◌≤◌, List, [], ◌∷◌, ◌++◌, Some, length, set, take, drop, refl, sym, ap, ◌∙◌, inl, inr, arith}, lemmas.List.{reverse-append, reverse-reverse, length-reverse, length-drop, take-append-drop, set_at, set-append_left}, lemmas.Bool.cases_lt}
 use Rattle.std.specs.Prelude.{reverse, slice_get}
-use Rattle.std.proofs.lemmas.List.{reverse-append, reverse-reverse, length-reverse, length-drop, take-append-drop, set_at, set-append_left}
-use Rattle.std.proofs.lemmas.Bool.{cases_lt}
-use Rattle.pc_lists.proofs.Cuts.{take_front, drop_front}
+use Rattle.pc_base.proofs.Cuts.{take_front, drop_front}
 
 -- the places of the front
 get_left : {X : Type 0} (xs ys : List X) (i : ℕ) → i < length xs → slice_get (xs ++ ys) i ≡ slice_get xs i

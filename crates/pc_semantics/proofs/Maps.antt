@@ -1,12 +1,8 @@
 -- Maps from addresses, as rules to compute with.
-use Rattle.std.specs.Prelude.{◌≡◌, ◌+◌, cond, [], Some, None}
-use Rattle.std.specs.FinMap.{empty, get, insert, len, contains_key, entries, put, get-insert, get-empty, len-insert, len-entries, len-empty, entries-insert}
-use Rattle.std.specs.Ordering.{eq_by_cmp}
+use Rattle.std.specs.{Prelude.{◌≡◌, ◌+◌, cond, [], Some, None}, FinMap.{empty, get, insert, len, contains_key, entries, put, get-insert, get-empty, len-insert, len-entries, len-empty, entries-insert}, Ordering.eq_by_cmp}
 use Rattle.std.proofs.Common.{sym, ◌∙◌}
-use Rattle.pc_heap.specs.Addresses.{addresses_total}
-use Rattle.pc_heap.specs.Objects.{address_cmp, ObjectMap, Object}
-use Rattle.pc_heap.specs.declared.value.Address.{Address}
-use Rattle.pc_lists.proofs.Cuts.{without_length}
+use Rattle.pc_heap.specs.{Addresses.addresses_total, Objects.{address_cmp, ObjectMap, Object}, declared.value.Address.Address}
+use Rattle.pc_base.proofs.Cuts.{without_length}
 
 pub get_inserted : (m : ObjectMap) (a : Address) (o : Object) (b : Address) → get (insert m a o) b ≡ cond (eq_by_cmp address_cmp b a) (Some o) (get m b)
 get_inserted m a o b = get-insert addresses_total m a o b

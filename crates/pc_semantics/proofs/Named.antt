@@ -1,8 +1,6 @@
 -- The place of an element whose name passes a test.
-use Rattle.std.specs.Prelude.{◌≡◌, ◌+◌, Bool, cond, not, List, [], ◌∷◌, map, position, refl}
-use Rattle.std.specs.List.{prefix_len}
-use Rattle.std.proofs.Common.{ap}
-use Rattle.std.proofs.lemmas.List.{length-map}
+use Rattle.std.specs.{Prelude.{◌≡◌, ◌+◌, Bool, cond, not, List, [], ◌∷◌, map, position, refl}, List.prefix_len}
+use Rattle.std.proofs.{Common.ap, lemmas.List.length-map}
 
 len_named : {A B : Type 0} → (p : B → Bool) (f : A → B) (xs : List A) → prefix_len (λ x. not (p x)) (map f xs) ≡ prefix_len (λ x. not (p (f x))) xs
 len_named p f [] = refl

@@ -1,14 +1,8 @@
 -- Runs in parts, and their texts by parts.
-use Rattle.std.specs.Prelude.{◌≡◌, ℕ, List, [], ◌∷◌, ◌++◌, length, replicate, None, refl}
-use Rattle.std.specs.FinMap.{len}
-use Rattle.std.specs.List.{count_by}
+use Rattle.std.specs.{Prelude.{◌≡◌, ℕ, List, [], ◌∷◌, ◌++◌, length, replicate, None, refl}, FinMap.len, List.count_by}
 use Rattle.std.proofs.Common.{ap, sym, ◌∙◌}
 use Rattle.pc_core.specs.CoreData.{CoreData}
-use Rattle.pc_semantics.specs.declared.outcome.Outcome.{Outcome}
-use Rattle.pc_semantics.specs.declared.outcome.Outcome.TheVariants.{Moved, Skipped, Lacks, TooLong}
-use Rattle.pc_semantics.specs.Configurations.{Configuration}
-use Rattle.pc_semantics.specs.Step.{step, followed, run_from, outcomes_from}
-use Rattle.pc_semantics.specs.Text.{is_moved, is_skipped, waiting, lines, summary, end_of, text_at_end}
+use Rattle.pc_semantics.specs.{declared.outcome.Outcome.Outcome, declared.outcome.Outcome.TheVariants.{Moved, Skipped, Lacks, TooLong}, Configurations.Configuration, Step.{step, followed, run_from, outcomes_from}, Text.{is_moved, is_skipped, waiting, lines, summary, end_of, text_at_end}}
 
 -- The text of a run by its parts.
 pub text_is : (c : Configuration) (os steps : List Outcome) (texts : List (List ℕ)) (actors objects messages : ℕ) → os ≡ steps → end_of steps ≡ None → c.printed ≡ texts → length c.actors ≡ actors → len c.objects ≡ objects → waiting c ≡ messages → text_at_end c os (end_of os) ≡ lines texts ++ summary (count_by is_moved steps) (count_by is_skipped steps) actors objects messages

@@ -1,11 +1,7 @@
 -- The tasks of a frame, from the entries that represent them.
-use Rattle.std.proofs.Common.{◌≡◌, ℕ, ◌<◌, List, [], ◌∷◌, ◌++◌, Some, None, slice_get, take, drop, set, map, refl, sym, ap, ◌∙◌}
-use Rattle.std.proofs.lemmas.Option.{same_Some, none-some}
-use Rattle.pc_semantics.specs.declared.frames.Task.{Task}
+use Rattle.std.proofs.{Common.{◌≡◌, ℕ, ◌<◌, List, [], ◌∷◌, ◌++◌, Some, None, slice_get, take, drop, set, map, refl, sym, ap, ◌∙◌}, lemmas.Option.{same_Some, none-some}}
+use Rattle.pc_semantics.specs.{declared.frames.Task.Task, declared.tasks.Entry.Entry, Pending.{all_tasks, as_items, tasks_after, entry_tasks, single}, Evaluation.item_tasks}
 use Rattle.pc_semantics.specs.declared.frames.Task.TheVariants as task
-use Rattle.pc_semantics.specs.declared.tasks.Entry.{Entry}
-use Rattle.pc_semantics.specs.Pending.{all_tasks, as_items, tasks_after, entry_tasks, single}
-use Rattle.pc_semantics.specs.Evaluation.{item_tasks}
 
 -- The first task is that of the first entry.
 pub top_task : (es : List Entry) (e : Entry) → slice_get es 0 ≡ Some e → Some e.task ≡ slice_get (all_tasks es) 0

@@ -1,8 +1,7 @@
 -- What an actor's next step is.
-use Rattle.std.specs.Prelude.{ℕ, List, [], ◌∷◌, slice_get}
-use Rattle.std.specs.Option.{option_map_or}
+use Rattle.std.specs.{Prelude.{ℕ, List, [], ◌∷◌, slice_get}, Option.option_map_or}
 use Rattle.pc_core.specs.CoreData.{CoreData}
-use Rattle.pc_semantics.specs.{declared.actors.Actor.Actor, declared.frames.Frame.Frame, declared.outcome.Outcome.Outcome, Configurations.Configuration, Configurations.Move, Configurations.Stuck, Configurations.Overflows, Configurations.Goes, Configurations.Writes, Configurations.Makes, Configurations.Spawns, Configurations.Enters, Configurations.Sends, Configurations.Leaves, Step.frame_move, Step.around, Step.take_first, declared.ahead.Ahead.Ahead}
+use Rattle.pc_semantics.specs.{declared.actors.Actor.Actor, declared.frames.Frame.Frame, declared.outcome.Outcome.Outcome, Configurations.{Configuration, Move, Stuck, Overflows, Goes, Writes, Makes, Spawns, Enters, Sends, Leaves}, Step.{frame_move, around, take_first}, declared.ahead.Ahead.Ahead}
 use Rattle.pc_semantics.specs.declared.outcome.Outcome.TheVariants as outcome
 use Rattle.pc_semantics.specs.declared.ahead.Ahead.TheVariants as ahead
 

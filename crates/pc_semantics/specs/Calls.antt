@@ -1,10 +1,9 @@
 -- Fields and slots; constructors, calls, messages and the end of a method.
-use Rattle.std.specs.Prelude.{ℕ, Option, Some, None, slice_get, ◌-◌, Bool, false, ◌&&◌, List, [], ◌∷◌, length, nat_eq, nat_lt, codes, decimal, option_map, unwrap_or, if◌then◌else◌}
-use Rattle.std.specs.{Str.bytes_eq, Option.option_flatten, Option.option_map_or}
-use Rattle.pc_heap.specs.{Objects.next_address, declared.value.Value.Value, declared.value.Value.TheVariants.At, declared.value.Value.TheVariants.Num, declared.value.Value.TheVariants.Truth, declared.value.Value.TheVariants.Text}
-use Rattle.pc_core.specs.{CoreData.field_named, CoreData.CoreData, CoreData.method_named, declared.nodes.NodeKind.NodeKind, declared.declarations.Method.Method, declared.declarations.MethodKind.MethodKind}
-use Rattle.pc_lists.specs.Lists.{◌>>=◌}
-use Rattle.pc_semantics.specs.{declared.frames.Frame.Frame, Configurations.Around, Configurations.Move, Configurations.Stuck, Configurations.Goes, Configurations.Writes, Configurations.Makes, Configurations.Spawns, Configurations.Enters, Configurations.Sends, Configurations.Leaves, Configurations.given, Configurations.pushed, Configurations.with_slot, Configurations.slot_value, Configurations.first_frame, Configurations.push_value, Configurations.pop, Configurations.pop_arguments, Configurations.none, Configurations.value_entity, Configurations.address_of, Configurations.with_object, Configurations.own_address, Configurations.blank_object}
+use Rattle.std.specs.{Prelude.{ℕ, Option, Some, None, slice_get, ◌-◌, Bool, false, ◌&&◌, List, [], ◌∷◌, length, nat_eq, nat_lt, codes, decimal, option_map, unwrap_or, if◌then◌else◌}, Str.bytes_eq, Option.{option_flatten, option_map_or}}
+use Rattle.pc_heap.specs.{Objects.next_address, declared.value.Value.Value, declared.value.Value.TheVariants.{At, Num, Truth, Text}}
+use Rattle.pc_core.specs.{CoreData.{field_named, CoreData, method_named}, declared.nodes.NodeKind.NodeKind, declared.declarations.Method.Method, declared.declarations.MethodKind.MethodKind}
+use Rattle.pc_base.specs.Lists.{◌>>=◌}
+use Rattle.pc_semantics.specs.{declared.frames.Frame.Frame, Configurations.{Around, Move, Stuck, Goes, Writes, Makes, Spawns, Enters, Sends, Leaves, given, pushed, with_slot, slot_value, first_frame, push_value, pop, pop_arguments, none, value_entity, address_of, with_object, own_address, blank_object}}
 use Rattle.pc_core.specs.declared.nodes.NodeKind.TheVariants as node
 use Rattle.pc_semantics.specs.declared.outcome.Lack.TheVariants as lack
 use Rattle.pc_core.specs.declared.declarations.MethodKind.TheVariants as method

@@ -1,10 +1,9 @@
 -- The state of the machine, and the configuration in which a program begins; what a task sees, and what it may do.
-use Rattle.std.specs.Prelude.{ℕ, zero, suc, ◌-◌, List, [], ◌∷◌, ◌++◌, map, length, drop, replicate, Option, Some, None, slice_get, slice_set, codes, position}
-use Rattle.std.specs.{Str.bytes_eq, FinMap.empty, FinMap.get, FinMap.insert, Option.option_flatten, Option.option_map_or}
+use Rattle.std.specs.{Prelude.{ℕ, zero, suc, ◌-◌, List, [], ◌∷◌, ◌++◌, map, length, drop, replicate, Option, Some, None, slice_get, slice_set, codes, position}, Str.bytes_eq, FinMap.{empty, get, insert}, Option.{option_flatten, option_map_or}}
 use Rattle.pc_tree.specs.Kinds.{none_entity, u64_entity, bool_entity, string_entity, env_entity, out_stream_entity}
-use Rattle.pc_heap.specs.{Objects.ObjectMap, Objects.class_at, Objects.new_object, Objects.with_field, Objects.Object, declared.value.Address.Address, declared.value.Value.Value, declared.value.Value.TheVariants.Num, declared.value.Value.TheVariants.Truth, declared.value.Value.TheVariants.Text, declared.value.Value.TheVariants.Prim, declared.value.Value.TheVariants.At}
-use Rattle.pc_core.specs.{CoreData.CoreData, CoreData.method_named, declared.declarations.EntityDef.EntityDef, declared.declarations.Method.Method}
-use Rattle.pc_lists.specs.Lists.{◌>>=◌}
+use Rattle.pc_heap.specs.{Objects.{ObjectMap, class_at, new_object, with_field, Object}, declared.value.Address.Address, declared.value.Value.Value, declared.value.Value.TheVariants.{Num, Truth, Text, Prim, At}}
+use Rattle.pc_core.specs.{CoreData.{CoreData, method_named}, declared.declarations.EntityDef.EntityDef, declared.declarations.Method.Method}
+use Rattle.pc_base.specs.Lists.{◌>>=◌}
 use Rattle.pc_semantics.specs.{declared.actors.Actor.Actor, declared.frames.Frame.Frame, declared.frames.Task.Task, declared.mailbox.Message.Message, declared.outcome.Lack.Lack}
 use Rattle.pc_semantics.specs.declared.frames.Task.TheVariants as task
 use Rattle.pc_semantics.specs.declared.outcome.Lack.TheVariants as lack

@@ -1,11 +1,10 @@
 -- The evaluation of a node, operators, and the choice of what to do next.
-use Rattle.std.specs.Prelude.{ℕ, ◌+◌, ◌-◌, ◌*◌, ◌/◌, ◌%◌, ◌^◌, List, [], ◌∷◌, ◌++◌, length, Option, Some, None, nat_eq, nat_lt, Bool, true, false, not, ◌&&◌, cond, if◌then◌else◌}
-use Rattle.std.specs.Str.{bytes_eq}
-use Rattle.pc_caps.specs.Limits.{text_limit}
+use Rattle.std.specs.{Prelude.{ℕ, ◌+◌, ◌-◌, ◌*◌, ◌/◌, ◌%◌, ◌^◌, List, [], ◌∷◌, ◌++◌, length, Option, Some, None, nat_eq, nat_lt, Bool, true, false, not, ◌&&◌, cond, if◌then◌else◌}, Str.bytes_eq}
+use Rattle.pc_base.specs.Limits.{text_limit}
 use Rattle.pc_tree.specs.declared.kinds.Op.{Op}
-use Rattle.pc_heap.specs.{declared.value.Value.Value, declared.value.Value.TheVariants.Num, declared.value.Value.TheVariants.Truth, declared.value.Value.TheVariants.Text, declared.value.Value.TheVariants.Prim, declared.value.Value.TheVariants.At}
-use Rattle.pc_core.specs.{declared.nodes.NodeKind.NodeKind}
-use Rattle.pc_semantics.specs.{declared.frames.Task.Task, declared.frames.Frame.Frame, Configurations.Move, Configurations.Stuck, Configurations.Overflows, Configurations.Goes, Configurations.pushed, Configurations.with_slot, Configurations.slot_value, Configurations.doing, Configurations.given, Configurations.push_value, Configurations.pop, Configurations.none, Children.evaluations}
+use Rattle.pc_heap.specs.{declared.value.Value.Value, declared.value.Value.TheVariants.{Num, Truth, Text, Prim, At}}
+use Rattle.pc_core.specs.declared.nodes.NodeKind.{NodeKind}
+use Rattle.pc_semantics.specs.{declared.frames.Task.Task, declared.frames.Frame.Frame, Configurations.{Move, Stuck, Overflows, Goes, pushed, with_slot, slot_value, doing, given, push_value, pop, none}, Children.evaluations}
 use Rattle.pc_tree.specs.declared.kinds.Op.TheVariants as op
 use Rattle.pc_core.specs.declared.nodes.NodeKind.TheVariants as node
 use Rattle.pc_semantics.specs.declared.frames.Task.TheVariants as task

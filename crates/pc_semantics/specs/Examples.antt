@@ -1,11 +1,9 @@
 -- What the machine does with small programs.
-use Rattle.std.specs.Prelude.{◌≡◌, ℕ, ◌-◌, ◌^◌, true, false, List, [], ◌∷◌, ◌++◌, length, replicate, Option, Some, slice_get, codes}
-use Rattle.std.specs.FinMap.{len}
-use Rattle.pc_heap.specs.{declared.value.Value.Value, declared.value.Value.TheVariants.Num, declared.value.Value.TheVariants.Truth, declared.value.Value.TheVariants.At}
+use Rattle.std.specs.{Prelude.{◌≡◌, ℕ, ◌-◌, ◌^◌, true, false, List, [], ◌∷◌, ◌++◌, length, replicate, Option, Some, slice_get, codes}, FinMap.len}
+use Rattle.pc_heap.specs.{declared.value.Value.Value, declared.value.Value.TheVariants.{Num, Truth, At}}
 use Rattle.pc_core.specs.CoreData.{CoreData}
-use Rattle.pc_lists.specs.Lists.{◌>>=◌}
-use Rattle.pc_semantics.specs.{declared.actors.Actor.Actor, declared.frames.Task.Task, declared.outcome.Outcome.Outcome, declared.outcome.Outcome.TheVariants.Moved, declared.outcome.Outcome.TheVariants.Skipped, declared.outcome.Outcome.TheVariants.Lacks, declared.outcome.Outcome.TheVariants.TooLong, Configurations.Configuration, Configurations.start, Configurations.own_address, Step.after, Step.outcomes, Safety.Race, Text.run_text, Text.steps_of, Text.waiting, Programs.hello, Programs.two_messages, Programs.one_node, Programs.on_one, Programs.on_two, Programs.lazy, Programs.choice, Programs.counting, Programs.spawning, Programs.making, Programs.touching, Programs.field_n, Programs.n, Programs.zz}
-use Rattle.pc_caps.specs.Limits.{text_limit}
+use Rattle.pc_base.specs.{Lists.◌>>=◌, Limits.text_limit}
+use Rattle.pc_semantics.specs.{declared.actors.Actor.Actor, declared.frames.Task.Task, declared.outcome.Outcome.Outcome, declared.outcome.Outcome.TheVariants.{Moved, Skipped, Lacks, TooLong}, Configurations.{Configuration, start, own_address}, Step.{after, outcomes}, Safety.Race, Text.{run_text, steps_of, waiting}, Programs.{hello, two_messages, one_node, on_one, on_two, lazy, choice, counting, spawning, making, touching, field_n, n, zz}}
 use Rattle.pc_tree.specs.declared.kinds.Op.TheVariants as op
 use Rattle.pc_core.specs.declared.nodes.NodeKind.TheVariants as node
 use Rattle.pc_semantics.specs.declared.frames.Task.TheVariants as task

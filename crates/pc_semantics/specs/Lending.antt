@@ -1,6 +1,5 @@
 -- A stack whose top is lent.
-use Rattle.std.specs.Prelude.{List, ◌∷◌, drop}
-use Rattle.std.specs.Borrow.{Lends, Fml, RattleType, MutBor}
+use Rattle.std.specs.{Prelude.{List, ◌∷◌, drop}, Borrow.{Lends, Fml, RattleType, MutBor}}
 use Rattle.pc_semantics.specs.contracts.stack.Stack.{the_row}
 
 -- When the loan ends, what the borrower left is on top, and everything below the old top is unchanged.

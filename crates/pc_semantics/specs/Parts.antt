@@ -1,12 +1,10 @@
 -- Parts of what the machine does, as proofs and the contracts of its code name them.
-use Rattle.std.specs.Prelude.{ℕ, suc, ◌+◌, ◌-◌, Bool, not, ◌&&◌, List, [], ◌∷◌, ◌++◌, map, length, drop, replicate, Option, Some, None, option_map, unwrap_or, slice_get, nat_eq, nat_lt, codes, position, if◌then◌else◌}
-use Rattle.std.specs.{Str.bytes_eq, Option.option_flatten, Option.option_map_or}
-use Rattle.pc_caps.specs.Limits.{text_limit}
+use Rattle.std.specs.{Prelude.{ℕ, suc, ◌+◌, ◌-◌, Bool, not, ◌&&◌, List, [], ◌∷◌, ◌++◌, map, length, drop, replicate, Option, Some, None, option_map, unwrap_or, slice_get, nat_eq, nat_lt, codes, position, if◌then◌else◌}, Str.bytes_eq, Option.{option_flatten, option_map_or}}
+use Rattle.pc_base.specs.{Limits.text_limit, Lists.◌>>=◌}
 use Rattle.pc_tree.specs.declared.kinds.Op.{Op}
-use Rattle.pc_heap.specs.{Objects.ObjectMap, Objects.Object, Objects.next_address, declared.value.Address.Address, declared.value.Value.Value, declared.value.Value.TheVariants.Num, declared.value.Value.TheVariants.Truth, declared.value.Value.TheVariants.Text, declared.value.Value.TheVariants.Prim, declared.value.Value.TheVariants.At}
-use Rattle.pc_core.specs.{CoreData.CoreData, CoreData.field_named, declared.declarations.EntityDef.EntityDef, declared.declarations.Method.Method, declared.nodes.Node.Node}
-use Rattle.pc_lists.specs.Lists.{◌>>=◌}
-use Rattle.pc_semantics.specs.{declared.actors.Actor.Actor, declared.ahead.Ahead.Ahead, declared.frames.Frame.Frame, declared.frames.Task.Task, declared.mailbox.Message.Message, declared.outcome.Outcome.Outcome, declared.outcome.Outcome.TheVariants.Skipped, Configurations.Configuration, Configurations.with_actor, Configurations.with_frames, Configurations.own_address, Configurations.blank_object, Configurations.Around, Configurations.Move, Configurations.Overflows, Configurations.Goes, Configurations.Writes, Configurations.Makes, Configurations.Spawns, Configurations.Enters, Configurations.Leaves, Configurations.given, Configurations.with_stack, Configurations.with_slot, Configurations.with_tasks, Configurations.pushed, Configurations.first_frame, Configurations.push_value, Configurations.pop, Configurations.none, Configurations.with_object, Evaluation.evaluate, Evaluation.same_truth, Evaluation.same_value, Evaluation.truth, Evaluation.binary, Evaluation.branch, Evaluation.loop_turn, Calls.counted, Calls.leave, Calls.invoke_kind, Calls.string_of, Calls.invoke, Step.around, Step.frame_move, Step.made, Step.run_frames, Step.leads_to, Ahead.by_move, Ahead.of_frames}
+use Rattle.pc_heap.specs.{Objects.{ObjectMap, Object, next_address}, declared.value.Address.Address, declared.value.Value.Value, declared.value.Value.TheVariants.{Num, Truth, Text, Prim, At}}
+use Rattle.pc_core.specs.{CoreData.{CoreData, field_named}, declared.declarations.EntityDef.EntityDef, declared.declarations.Method.Method, declared.nodes.Node.Node}
+use Rattle.pc_semantics.specs.{declared.actors.Actor.Actor, declared.ahead.Ahead.Ahead, declared.frames.Frame.Frame, declared.frames.Task.Task, declared.mailbox.Message.Message, declared.outcome.Outcome.Outcome, declared.outcome.Outcome.TheVariants.Skipped, Configurations.{Configuration, with_actor, with_frames, own_address, blank_object, Around, Move, Overflows, Goes, Writes, Makes, Spawns, Enters, Leaves, given, with_stack, with_slot, with_tasks, pushed, first_frame, push_value, pop, none, with_object}, Evaluation.{evaluate, same_truth, same_value, truth, binary, branch, loop_turn}, Calls.{counted, leave, invoke_kind, string_of, invoke}, Step.{around, frame_move, made, run_frames, leads_to}, Ahead.{by_move, of_frames}}
 use Rattle.pc_semantics.specs.declared.ahead.Ahead.TheVariants as ahead
 use Rattle.pc_semantics.specs.declared.outcome.Lack.TheVariants as lack
 use Rattle.pc_core.specs.declared.declarations.MethodKind.TheVariants as method

@@ -1,6 +1,5 @@
 -- The tasks that the entries of a frame represent.
-use Rattle.std.specs.Prelude.{ℕ, List, [], ◌∷◌, drop}
-use Rattle.std.specs.List.{flat_map}
+use Rattle.std.specs.{Prelude.{ℕ, List, [], ◌∷◌, drop}, List.flat_map}
 use Rattle.pc_semantics.specs.{declared.frames.Task.Task, Children.evaluations, declared.tasks.After.After, declared.tasks.Entry.Entry}
 use Rattle.pc_semantics.specs.declared.frames.Task.TheVariants as task
 use Rattle.pc_semantics.specs.declared.tasks.After.TheVariants as after

@@ -1,8 +1,8 @@
 -- Small programs, as cores. What the machine does not look at is left out: slots, capabilities, results and positions
 -- in the text.
 use Rattle.std.specs.Prelude.{ℕ, ◌-◌, true, false, List, [], ◌∷◌, length, Some, codes, ◌+◌}
-use Rattle.pc_tree.specs.{declared.kinds.EntityKind.EntityKind, Kinds.none_entity, Kinds.u64_entity, Kinds.env_entity, Kinds.first_own}
-use Rattle.pc_core.specs.{declared.declarations.EntityDef.EntityDef, declared.declarations.FieldInfo.FieldInfo, declared.declarations.Method.Method, declared.declarations.MethodKind.MethodKind, declared.declarations.ParamInfo.ParamInfo, declared.nodes.Node.Node, declared.nodes.NodeKind.NodeKind, CoreData.CoreData, Entities.nowhere, Entities.built_in, Entities.built_in_value, Entities.out_field, Entities.print_method}
+use Rattle.pc_tree.specs.{declared.kinds.EntityKind.EntityKind, Kinds.{none_entity, u64_entity, env_entity, first_own}}
+use Rattle.pc_core.specs.{declared.declarations.EntityDef.EntityDef, declared.declarations.FieldInfo.FieldInfo, declared.declarations.Method.Method, declared.declarations.MethodKind.MethodKind, declared.declarations.ParamInfo.ParamInfo, declared.nodes.Node.Node, declared.nodes.NodeKind.NodeKind, CoreData.CoreData, Entities.{nowhere, built_in, built_in_value, out_field, print_method}}
 use Rattle.pc_caps.specs.declared.capability.Cap.TheVariants as cap
 use Rattle.pc_caps.specs.declared.capability.Form.TheVariants as form
 use Rattle.pc_tree.specs.declared.kinds.EntityKind.TheVariants as kind

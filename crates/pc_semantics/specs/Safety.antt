@@ -3,9 +3,9 @@
 use Rattle.std.specs.Prelude.{◌≡◌, ◌≢◌, ◌⊎◌, ℕ, Bool, true, false, List, length, Option, Some, None, slice_get}
 use Rattle.pc_heap.specs.{Objects.class_at, declared.value.Address.Address, declared.value.Value.Value}
 use Rattle.pc_caps.specs.Tables.{sendable}
-use Rattle.pc_core.specs.{CoreData.field_named, CoreData.CoreData, declared.declarations.Method.Method, declared.declarations.ParamInfo.ParamInfo, declared.nodes.NodeKind.NodeKind}
-use Rattle.pc_lists.specs.Lists.{Each, ◌>>=◌}
-use Rattle.pc_semantics.specs.{declared.access.Access.Access, declared.frames.Frame.Frame, declared.frames.Task.Task, declared.mailbox.Message.Message, declared.outcome.Lack.Lack, declared.outcome.Outcome.TheVariants.Lacks, Configurations.Configuration, Configurations.address_of, Configurations.own_address, Step.step, Step.after}
+use Rattle.pc_core.specs.{CoreData.{field_named, CoreData}, declared.declarations.Method.Method, declared.declarations.ParamInfo.ParamInfo, declared.nodes.NodeKind.NodeKind}
+use Rattle.pc_base.specs.Lists.{Each, ◌>>=◌}
+use Rattle.pc_semantics.specs.{declared.access.Access.Access, declared.frames.Frame.Frame, declared.frames.Task.Task, declared.mailbox.Message.Message, declared.outcome.Lack.Lack, declared.outcome.Outcome.TheVariants.Lacks, Configurations.{Configuration, address_of, own_address}, Step.{step, after}}
 use Rattle.pc_caps.specs.declared.capability.Cap.TheVariants as cap
 use Rattle.pc_core.specs.declared.nodes.NodeKind.TheVariants as node
 use Rattle.pc_semantics.specs.declared.frames.Task.TheVariants as task

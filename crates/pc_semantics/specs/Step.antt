@@ -1,10 +1,9 @@
 -- One step of an actor, and runs: the steps of a list of actors.
-use Rattle.std.specs.Prelude.{Option, Some, option_map, slice_get, ℕ, zero, List, [], ◌∷◌, ◌++◌, drop, length}
-use Rattle.std.specs.{FinMap.insert, Option.option_map_or}
-use Rattle.pc_heap.specs.{Objects.with_value, Objects.Object, declared.value.Value.Value, declared.value.Value.TheVariants.Text, declared.value.Value.TheVariants.At}
+use Rattle.std.specs.{Prelude.{Option, Some, option_map, slice_get, ℕ, zero, List, [], ◌∷◌, ◌++◌, drop, length}, FinMap.insert, Option.option_map_or}
+use Rattle.pc_heap.specs.{Objects.{with_value, Object}, declared.value.Value.Value, declared.value.Value.TheVariants.{Text, At}}
 use Rattle.pc_core.specs.CoreData.{CoreData}
-use Rattle.pc_lists.specs.Lists.{◌>>=◌}
-use Rattle.pc_semantics.specs.{declared.actors.Actor.Actor, declared.frames.Frame.Frame, declared.frames.Task.Task, declared.mailbox.Message.Message, declared.outcome.Lack.Lack, declared.outcome.Outcome.Outcome, declared.outcome.Outcome.TheVariants.Moved, declared.outcome.Outcome.TheVariants.Skipped, declared.outcome.Outcome.TheVariants.Lacks, declared.outcome.Outcome.TheVariants.TooLong, Configurations.Configuration, Configurations.with_actor, Configurations.with_frames, Configurations.own_address, Configurations.start, Configurations.Around, Configurations.Move, Configurations.Stuck, Configurations.Overflows, Configurations.Goes, Configurations.Writes, Configurations.Makes, Configurations.Spawns, Configurations.Enters, Configurations.Sends, Configurations.Leaves, Configurations.given, Configurations.pop, Configurations.pushed, Configurations.with_tasks, Configurations.first_frame, Evaluation.evaluate, Evaluation.apply_task, Evaluation.truth, Evaluation.test_task, Evaluation.branch, Evaluation.loop_turn, Calls.get_task, Calls.put_task, Calls.store_task, Calls.make_task, Calls.spawn_task, Calls.invoke_task, Calls.leave}
+use Rattle.pc_base.specs.Lists.{◌>>=◌}
+use Rattle.pc_semantics.specs.{declared.actors.Actor.Actor, declared.frames.Frame.Frame, declared.frames.Task.Task, declared.mailbox.Message.Message, declared.outcome.Lack.Lack, declared.outcome.Outcome.Outcome, declared.outcome.Outcome.TheVariants.{Moved, Skipped, Lacks, TooLong}, Configurations.{Configuration, with_actor, with_frames, own_address, start, Around, Move, Stuck, Overflows, Goes, Writes, Makes, Spawns, Enters, Sends, Leaves, given, pop, pushed, with_tasks, first_frame}, Evaluation.{evaluate, apply_task, truth, test_task, branch, loop_turn}, Calls.{get_task, put_task, store_task, make_task, spawn_task, invoke_task, leave}}
 use Rattle.pc_semantics.specs.declared.frames.Task.TheVariants as task
 use Rattle.pc_semantics.specs.declared.outcome.Lack.TheVariants as lack
 

@@ -1,9 +1,8 @@
 -- The output of a run.
-use Rattle.std.specs.Prelude.{ℕ, ◌+◌, Bool, true, false, List, [], ◌∷◌, ◌++◌, length, map, replicate, flat_map, Option, Some, None, codes, decimal, sum}
-use Rattle.std.specs.{List.count_by, FinMap.len}
-use Rattle.pc_lists.specs.Lists.{line_end}
+use Rattle.std.specs.{Prelude.{ℕ, ◌+◌, Bool, true, false, List, [], ◌∷◌, ◌++◌, length, map, replicate, flat_map, Option, Some, None, codes, decimal, sum}, List.count_by, FinMap.len}
+use Rattle.pc_base.specs.Lists.{line_end}
 use Rattle.pc_core.specs.CoreData.{CoreData}
-use Rattle.pc_semantics.specs.{declared.actors.Actor.Actor, declared.outcome.Outcome.Outcome, declared.outcome.Outcome.TheVariants.Moved, declared.outcome.Outcome.TheVariants.Skipped, Configurations.Configuration, Step.after, Step.outcomes}
+use Rattle.pc_semantics.specs.{declared.actors.Actor.Actor, declared.outcome.Outcome.Outcome, declared.outcome.Outcome.TheVariants.{Moved, Skipped}, Configurations.Configuration, Step.{after, outcomes}}
 
 -- Turns, each an actor and a number of steps, as the list of the actors of all steps.
 abbrev pub steps_of : List (ℕ × ℕ) → List ℕ

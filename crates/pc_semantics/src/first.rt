@@ -4,7 +4,7 @@ ghost use Rattle.std.specs.Str.{bytes_eq};
 ghost use Rattle.pc_semantics.specs.Configurations as spec;
 ghost use Rattle.pc_semantics.specs.Parts as parts;
 
-use pc_caps::List;
+use pc_base::List;
 use pc_core::{Core, EntityDef};
 
 // The place of a text in this list.

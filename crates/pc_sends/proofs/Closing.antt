@@ -1,20 +1,12 @@
 -- What the queue has found is Reach when nothing is left in it; and a turn of the queue goes on.
 use Rattle.std.specs.Prelude.{◌≡◌, ℕ, ◌+◌, ◌<◌, ◌≤◌, List, [], length, Option, Some, None, slice_get}
-use Rattle.std.proofs.Common.{inl, inr, ap, sym, subst, ◌∙◌, arith}
-use Rattle.std.proofs.lemmas.Option.{same_Some, none-some}
-use Rattle.std.proofs.lemmas.Bool.{cases_lt}
-use Rattle.pc_lists.proofs.Gets.{get_below, get_within, get_front}
-use Rattle.pc_lists.proofs.Elements.{differ_none}
-use Rattle.pc_core.specs.CoreData.{CoreData}
-use Rattle.pc_core.specs.Formed.{Formed}
-use Rattle.pc_lists.specs.Lists.{Has}
+use Rattle.std.proofs.{Common.{inl, inr, ap, sym, subst, ◌∙◌, arith}, lemmas.Option.{same_Some, none-some}, lemmas.Bool.cases_lt}
+use Rattle.pc_base.proofs.{Gets.{get_below, get_within, get_front}, Elements.differ_none}
+use Rattle.pc_core.specs.{CoreData.CoreData, Formed.Formed}
+use Rattle.pc_base.specs.Lists.{Has}
 use Rattle.pc_semantics.specs.Configurations.{main_create}
-use Rattle.pc_sends.specs.Growth.{Grown}
-use Rattle.pc_sends.specs.Tables.{UsesMethod, Reach, first, next}
-use Rattle.pc_sends.specs.Reached.{Found, IsReach}
-use Rattle.pc_sends.proofs.Grows.{grown_kept}
-use Rattle.pc_sends.proofs.There.{reach_below}
-use Rattle.pc_sends.proofs.Sorted.{differ_few}
+use Rattle.pc_sends.specs.{Growth.Grown, Tables.{UsesMethod, Reach, first, next}, Reached.{Found, IsReach}}
+use Rattle.pc_sends.proofs.{Grows.grown_kept, There.reach_below, Sorted.differ_few}
 
 -- What is at a place of the old list.
 old_get : (P : ℕ → Type 0) (a b : List ℕ) (i t : ℕ) → Grown P a b → i < length a → slice_get b i ≡ Some t → slice_get a i ≡ Some t

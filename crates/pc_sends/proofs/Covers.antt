@@ -1,31 +1,13 @@
 -- From Held to what holds in the configuration after every list of actors.
 use Rattle.std.specs.Prelude.{◌≡◌, ℕ, zero, suc, List, [], ◌∷◌, ◌++◌, Option, Some, None, slice_get, slice_set, refl}
-use Rattle.std.proofs.Common.{inl, inr, ap, sym, subst}
-use Rattle.std.proofs.lemmas.Option.{same_Some, none-some}
-use Rattle.pc_lists.proofs.Gets.{get_push, get_set}
-use Rattle.pc_heap.specs.declared.value.Value.{Value}
-use Rattle.pc_heap.specs.declared.value.Value.TheVariants.{Num, Truth, Text, Prim, At}
-use Rattle.pc_core.specs.declared.declarations.Method.{Method}
-use Rattle.pc_core.specs.CoreData.{CoreData}
-use Rattle.pc_lists.specs.Lists.{Each}
-use Rattle.pc_lists.proofs.Options.{bind_some}
-use Rattle.pc_core.specs.Formed.{Formed}
-use Rattle.pc_semantics.specs.declared.actors.Actor.{Actor}
-use Rattle.pc_semantics.specs.declared.frames.Frame.{Frame}
-use Rattle.pc_semantics.specs.declared.frames.Task.{Task}
-use Rattle.pc_semantics.specs.declared.mailbox.Message.{Message}
-use Rattle.pc_semantics.specs.declared.outcome.Outcome.{Outcome}
-use Rattle.pc_semantics.specs.declared.outcome.Outcome.TheVariants.{Moved, Skipped, Lacks, TooLong}
-use Rattle.pc_semantics.specs.Configurations.{Configuration, main_create, start_of, start, Move, Stuck, Overflows, Goes, Writes, Makes, Spawns, Enters, Sends as Sending, Leaves}
-use Rattle.pc_semantics.specs.Step.{task_move, left, made, around, printed_text, take_first, run_frames, step, followed, run_from, after}
-use Rattle.pc_semantics.specs.Parts.{delivered, run_task, begun, begin_method, step_of}
-use Rattle.pc_sends.specs.Held.{HeldAt, HeldFrom}
-use Rattle.pc_sends.specs.Tables.{running, Reach, first, next, Posts, Sends, message_of, next_move}
-use Rattle.pc_sends.specs.Found.{MayWait}
-use Rattle.pc_sends.specs.Covering.{ReachCovers, HeldCovers}
-use Rattle.pc_sends.proofs.Homes.{body_in}
-use Rattle.pc_sends.proofs.Moves.{TasksIn, FrameOf, IsThere, Begun, MoveIn}
-use Rattle.pc_sends.proofs.Tasks.{CallNoted, task_in}
+use Rattle.std.proofs.{Common.{inl, inr, ap, sym, subst}, lemmas.Option.{same_Some, none-some}}
+use Rattle.pc_base.proofs.{Gets.{get_push, get_set}, Options.bind_some}
+use Rattle.pc_heap.specs.{declared.value.Value.Value, declared.value.Value.TheVariants.{Num, Truth, Text, Prim, At}}
+use Rattle.pc_core.specs.{declared.declarations.Method.Method, CoreData.CoreData, Formed.Formed}
+use Rattle.pc_base.specs.Lists.{Each}
+use Rattle.pc_semantics.specs.{declared.actors.Actor.Actor, declared.frames.Frame.Frame, declared.frames.Task.Task, declared.mailbox.Message.Message, declared.outcome.Outcome.Outcome, declared.outcome.Outcome.TheVariants.{Moved, Skipped, Lacks, TooLong}, Configurations.{Configuration, main_create, start_of, start, Move, Stuck, Overflows, Goes, Writes, Makes, Spawns, Enters, Sends as Sending, Leaves}, Step.{task_move, left, made, around, printed_text, take_first, run_frames, step, followed, run_from, after}, Parts.{delivered, run_task, begun, begin_method, step_of}}
+use Rattle.pc_sends.specs.{Held.{HeldAt, HeldFrom}, Tables.{running, Reach, first, next, Posts, Sends, message_of, next_move}, Found.MayWait, Covering.{ReachCovers, HeldCovers}}
+use Rattle.pc_sends.proofs.{Homes.body_in, Moves.{TasksIn, FrameOf, IsThere, Begun, MoveIn}, Tasks.{CallNoted, task_in}}
 
 -- ---- what holds of each actor
 

@@ -1,11 +1,8 @@
 -- The numbers below a number that have a property, in ascending order.
 use Rattle.std.specs.Prelude.{◌≡◌, ◌⊎◌, ◌↔◌, ℕ, ◌+◌, ◌<◌, List, [], ◌∷◌, ◌++◌, length, Some, slice_get}
-use Rattle.std.proofs.Common.{inl, inr, subst, arith}
-use Rattle.std.proofs.lemmas.Option.{none-some}
-use Rattle.std.proofs.lemmas.Bool.{cases_lt}
-use Rattle.pc_lists.specs.Lists.{Has, Ascends}
-use Rattle.pc_lists.proofs.Elements.{ascends_none, has_front}
-use Rattle.pc_lists.proofs.Gets.{get_push, get_behind, get_below}
+use Rattle.std.proofs.{Common.{inl, inr, subst, arith}, lemmas.Option.none-some, lemmas.Bool.cases_lt}
+use Rattle.pc_base.specs.Lists.{Has, Ascends}
+use Rattle.pc_base.proofs.{Elements.{ascends_none, has_front}, Gets.{get_push, get_behind, get_below}}
 
 pub record Filtered (P : ℕ → Type 0) (n : ℕ) (xs : List ℕ) : Type 0 where
   pub ascends : Ascends xs

@@ -1,13 +1,8 @@
 -- How lists of numbers grow: by one number, by nothing, and turn by turn.
-use Rattle.std.specs.Prelude.{◌≡◌, ◌⊎◌, ◌↔◌, ℕ, zero, suc, ◌+◌, ◌≤◌, Bool, true, false, List, [], ◌∷◌, ◌++◌, length, IsTrue, if◌then◌else◌, nat_eq, Some, slice_get, refl}
-use Rattle.std.specs.List.{list_any}
-use Rattle.std.proofs.Common.{inl, inr, ap, sym, subst, ◌∙◌, arith, append-nil, append_assoc}
-use Rattle.std.proofs.lemmas.Option.{same_Some, none-some}
-use Rattle.std.proofs.lemmas.Bool.{cases_lt, or_cases, or_left, or_right, eqb-true, eq-eqb}
-use Rattle.pc_lists.specs.Lists.{Has, Differ}
-use Rattle.pc_lists.proofs.Bools.{false_true, no_both}
-use Rattle.pc_lists.proofs.Elements.{has_on, has_front}
-use Rattle.pc_lists.proofs.Gets.{get_push, get_behind, get_below}
+use Rattle.std.specs.{Prelude.{◌≡◌, ◌⊎◌, ◌↔◌, ℕ, zero, suc, ◌+◌, ◌≤◌, Bool, true, false, List, [], ◌∷◌, ◌++◌, length, IsTrue, if◌then◌else◌, nat_eq, Some, slice_get, refl}, List.list_any}
+use Rattle.std.proofs.{Common.{inl, inr, ap, sym, subst, ◌∙◌, arith, append-nil, append_assoc}, lemmas.Option.{same_Some, none-some}, lemmas.Bool.{cases_lt, or_cases, or_left, or_right, eqb-true, eq-eqb}}
+use Rattle.pc_base.specs.Lists.{Has, Differ}
+use Rattle.pc_base.proofs.{Bools.{false_true, no_both}, Elements.{has_on, has_front}, Gets.{get_push, get_behind, get_below}}
 use Rattle.pc_sends.specs.Growth.{Grown, TurnsBelow, OfSome}
 
 -- ---- a list of numbers as a set

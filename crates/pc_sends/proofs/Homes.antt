@@ -1,17 +1,9 @@
 -- In a core that fits together the children of a node are of its method, and so is a method's body.
 use Rattle.std.specs.Prelude.{◌≡◌, ℕ, zero, suc, ◌+◌, ◌-◌, ◌<◌, ◌≤◌, List, [], ◌∷◌, ◌++◌, length, Option, Some, None, slice_get, refl}
-use Rattle.std.proofs.Common.{inl, inr, ap, sym, subst, ◌∙◌, arith}
-use Rattle.std.proofs.lemmas.Option.{same_Some, none-some}
-use Rattle.pc_lists.proofs.Gets.{get_below, get_front, get_push, get_append, get_map, get_range, range_get}
-use Rattle.pc_core.specs.declared.declarations.Method.{Method}
-use Rattle.pc_core.specs.declared.nodes.Node.{Node}
-use Rattle.pc_core.specs.CoreData.{CoreData, node_end}
-use Rattle.pc_lists.specs.Lists.{Each}
-use Rattle.pc_core.specs.Further.{own_nodes}
-use Rattle.pc_core.specs.Methods.{PostOrder}
-use Rattle.pc_core.specs.Growing.{children_before}
-use Rattle.pc_lists.proofs.Ranges.{run_within}
-use Rattle.pc_core.specs.Formed.{Formed}
+use Rattle.std.proofs.{Common.{inl, inr, ap, sym, subst, ◌∙◌, arith}, lemmas.Option.{same_Some, none-some}}
+use Rattle.pc_base.proofs.{Gets.{get_below, get_front, get_push, get_append, get_map, get_range, range_get}, Ranges.run_within}
+use Rattle.pc_core.specs.{declared.declarations.Method.Method, declared.nodes.Node.Node, CoreData.{CoreData, node_end}, Further.own_nodes, Methods.PostOrder, Growing.children_before, Formed.Formed}
+use Rattle.pc_base.specs.Lists.{Each}
 use Rattle.pc_core.proofs.Homes.{Home, between, home}
 
 -- Node n, if there is one, is of method m.

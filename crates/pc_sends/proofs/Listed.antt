@@ -1,15 +1,11 @@
 -- The lists of the entities that values may have, entity by entity.
 use Rattle.std.specs.Prelude.{◌≡◌, ◌↔◌, ℕ, zero, suc, ◌+◌, ◌<◌, Bool, true, false, List, [], ◌∷◌, ◌++◌, length, Some, slice_get, refl}
-use Rattle.std.proofs.Common.{inl, inr, ap, sym, subst, ◌∙◌, arith, length-append}
-use Rattle.std.proofs.lemmas.Option.{same_Some, none-some}
+use Rattle.std.proofs.{Common.{inl, inr, ap, sym, subst, ◌∙◌, arith, length-append}, lemmas.Option.{same_Some, none-some}}
 use Rattle.pc_tree.specs.Kinds.{is_abstract}
-use Rattle.pc_core.specs.declared.declarations.EntityDef.{EntityDef}
-use Rattle.pc_core.specs.CoreData.{CoreData}
-use Rattle.pc_core.specs.Further.{IsAbstract}
-use Rattle.pc_lists.specs.Lists.{Has}
-use Rattle.pc_lists.proofs.Gets.{get_below, get_within, get_push}
-use Rattle.pc_sends.specs.Tables.{MayBe}
-use Rattle.pc_sends.specs.Found.{ListsMayBe}
+use Rattle.pc_core.specs.{declared.declarations.EntityDef.EntityDef, CoreData.CoreData, Further.IsAbstract}
+use Rattle.pc_base.specs.Lists.{Has}
+use Rattle.pc_base.proofs.Gets.{get_below, get_within, get_push}
+use Rattle.pc_sends.specs.{Tables.MayBe, Found.ListsMayBe}
 
 -- What may be is an entity of the core, and so is what it is known to be.
 pub may_be_below : (core : CoreData) (d e : ℕ) → MayBe core d e → d < length core.entities

@@ -1,16 +1,10 @@
 -- What is kept of a frame and of the moves of its tasks.
 use Rattle.std.specs.Prelude.{◌≡◌, ℕ, suc, Bool, true, false, cond, List, [], ◌∷◌, ◌++◌, Option, Some, None, slice_get, refl}
 use Rattle.pc_heap.specs.declared.value.Value.{Value}
-use Rattle.pc_core.specs.declared.declarations.Method.{Method}
-use Rattle.pc_core.specs.CoreData.{CoreData}
-use Rattle.pc_lists.specs.Lists.{Each}
-use Rattle.pc_semantics.specs.declared.frames.Frame.{Frame}
-use Rattle.pc_semantics.specs.declared.frames.Task.{Task}
+use Rattle.pc_core.specs.{declared.declarations.Method.Method, CoreData.CoreData}
+use Rattle.pc_base.specs.Lists.{Each}
+use Rattle.pc_semantics.specs.{declared.frames.Frame.Frame, declared.frames.Task.Task, Configurations.{Move, Stuck, Overflows, Goes, Writes, Makes, Spawns, Enters, Sends, Leaves, with_stack}, Parts.{with_top, with_popped}, Children.evaluations, Evaluation.item_tasks}
 use Rattle.pc_semantics.specs.declared.frames.Task.TheVariants as task
-use Rattle.pc_semantics.specs.Configurations.{Move, Stuck, Overflows, Goes, Writes, Makes, Spawns, Enters, Sends, Leaves, with_stack}
-use Rattle.pc_semantics.specs.Parts.{with_top, with_popped}
-use Rattle.pc_semantics.specs.Children.{evaluations}
-use Rattle.pc_semantics.specs.Evaluation.{item_tasks}
 use Rattle.pc_sends.specs.Tables.{UsesMethod, Posts}
 use Rattle.pc_sends.proofs.Homes.{NodeIn}
 

@@ -1,11 +1,8 @@
 -- A list of pairs of numbers as a set.
-use Rattle.std.specs.Prelude.{◌≡◌, ℕ, true, ◌&&◌, List, [], ◌∷◌, nat_eq, Some}
-use Rattle.std.specs.List.{list_any}
-use Rattle.std.proofs.Common.{inl, inr, ap, sym, ◌∙◌}
-use Rattle.std.proofs.lemmas.Bool.{and_parts, or_cases, eqb-true}
-use Rattle.pc_lists.specs.Lists.{Has}
-use Rattle.pc_lists.proofs.Bools.{false_true}
-use Rattle.pc_lists.proofs.Elements.{has_on}
+use Rattle.std.specs.{Prelude.{◌≡◌, ℕ, true, ◌&&◌, List, [], ◌∷◌, nat_eq, Some}, List.list_any}
+use Rattle.std.proofs.{Common.{inl, inr, ap, sym, ◌∙◌}, lemmas.Bool.{and_parts, or_cases, eqb-true}}
+use Rattle.pc_base.specs.Lists.{Has}
+use Rattle.pc_base.proofs.{Bools.false_true, Elements.has_on}
 
 same_pair : (a b : ℕ) (p : ℕ × ℕ) → (nat_eq a p.0 && nat_eq b p.1) ≡ true → p ≡ (a, b)
 same_pair a b (c, d) e =

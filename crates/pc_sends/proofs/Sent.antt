@@ -1,25 +1,12 @@
 -- What the methods of an entity send is what they use, if it is a message.
 use Rattle.std.specs.Prelude.{◌≡◌, ℕ, ◌+◌, ◌-◌, ◌<◌, ◌≤◌, true, List, [], Option, Some, None, slice_get, refl}
-use Rattle.std.proofs.Common.{inl, inr, ap, sym, subst, ◌∙◌, arith}
-use Rattle.std.proofs.lemmas.Option.{same_Some, none-some}
-use Rattle.pc_core.specs.declared.declarations.EntityDef.{EntityDef}
-use Rattle.pc_core.specs.declared.declarations.Method.{Method}
-use Rattle.pc_core.specs.declared.declarations.MethodKind.{MethodKind}
+use Rattle.std.proofs.{Common.{inl, inr, ap, sym, subst, ◌∙◌, arith}, lemmas.Option.{same_Some, none-some}}
+use Rattle.pc_core.specs.{declared.declarations.EntityDef.EntityDef, declared.declarations.Method.Method, declared.declarations.MethodKind.MethodKind, declared.nodes.NodeKind.NodeKind, CoreData.CoreData, Formed.Formed, Members.{methods_within, method_among}, Nodes.NamesFit, Further.NamesMethod}
 use Rattle.pc_core.specs.declared.declarations.MethodKind.TheVariants as method
-use Rattle.pc_core.specs.declared.nodes.NodeKind.{NodeKind}
 use Rattle.pc_core.specs.declared.nodes.NodeKind.TheVariants as nodes
-use Rattle.pc_core.specs.CoreData.{CoreData}
-use Rattle.pc_core.specs.Formed.{Formed}
-use Rattle.pc_core.specs.Members.{methods_within, method_among}
-use Rattle.pc_core.specs.Nodes.{NamesFit}
-use Rattle.pc_core.specs.Further.{NamesMethod}
-use Rattle.pc_lists.specs.Lists.{Has}
-use Rattle.pc_lists.proofs.Bools.{false_true, no_both}
-use Rattle.pc_lists.proofs.Elements.{differ_none}
-use Rattle.pc_lists.proofs.Gets.{get_below, get_within, range_get}
-use Rattle.pc_sends.specs.Growth.{Grown, TurnsBelow, OfSome, Sorts}
-use Rattle.pc_sends.specs.Tables.{is_called, Aims, UsesMethod, Reach, IsSent, Sends, is_message}
-use Rattle.pc_sends.specs.Reached.{IsMessage, ReachedUses, EntityUses, IsUsed, AreSent}
+use Rattle.pc_base.specs.Lists.{Has}
+use Rattle.pc_base.proofs.{Bools.{false_true, no_both}, Elements.differ_none, Gets.{get_below, get_within, range_get}}
+use Rattle.pc_sends.specs.{Growth.{Grown, TurnsBelow, OfSome, Sorts}, Tables.{is_called, Aims, UsesMethod, Reach, IsSent, Sends, is_message}, Reached.{IsMessage, ReachedUses, EntityUses, IsUsed, AreSent}}
 use Rattle.pc_sends.proofs.Grows.{grown_same}
 
 -- ---- what is used

@@ -1,15 +1,10 @@
 -- What the small program sends, computed.
 use Rattle.std.specs.Prelude.{◌≡◌, ◌⊎◌, ℕ, zero, suc, Some, slice_get, refl}
-use Rattle.std.proofs.Common.{inl, inr, ap, sym, subst, ◌∙◌}
-use Rattle.std.proofs.lemmas.Option.{same_Some, none-some}
+use Rattle.std.proofs.{Common.{inl, inr, ap, sym, subst, ◌∙◌}, lemmas.Option.{same_Some, none-some}}
 use Rattle.pc_tree.specs.Kinds.{is_abstract}
-use Rattle.pc_core.specs.declared.declarations.EntityDef.{EntityDef}
-use Rattle.pc_core.specs.declared.nodes.Node.{Node}
-use Rattle.pc_core.specs.Further.{IsAbstract}
-use Rattle.pc_core.specs.CoreData.{method_named}
-use Rattle.pc_lists.proofs.Bools.{false_true}
-use Rattle.pc_sends.specs.Tables.{MayBe, IsOrConformsTo, MayCall, Aims, UsesMethod, Reach, first, Sends}
-use Rattle.pc_sends.specs.Example.{go, never_stops, its_entities, NeverStops}
+use Rattle.pc_core.specs.{declared.declarations.EntityDef.EntityDef, declared.nodes.Node.Node, Further.IsAbstract, CoreData.method_named}
+use Rattle.pc_base.proofs.Bools.{false_true}
+use Rattle.pc_sends.specs.{Tables.{MayBe, IsOrConformsTo, MayCall, Aims, UsesMethod, Reach, first, Sends}, Example.{go, never_stops, its_entities, NeverStops}}
 
 -- Nothing conforms to an actor.
 not_abstract : IsAbstract never_stops 6 → ⊥

@@ -1,15 +1,8 @@
 -- Numbers that differ: how many there are below a number, and what they are when they are sorted.
-use Rattle.std.specs.Prelude.{◌≡◌, ℕ, ◌<◌, ◌≤◌, Bool, true, false, List, length, get_or, nat_eq, Some, IsPermutation, IsSorted, slice_get, refl}
-use Rattle.std.specs.List.{IsDistinct, Contains}
-use Rattle.std.specs.Ordering.{nat_cmp}
-use Rattle.std.proofs.Common.{ap, sym, ◌∙◌, arith}
-use Rattle.std.proofs.lemmas.Bool.{eqb-true}
-use Rattle.std.proofs.lemmas.Option.{slice_get-get_or, get_or_from_slice_get}
-use Rattle.std.proofs.lemmas.List.Sorted.{Contains-permutation, IsPermutation-sym, IsNonDecreasingBy-from_sort}
-use Rattle.std.proofs.lemmas.Map.Keys.{IsDistinct-from_apart, IsDistinct-IsPermutation, IsStrictlyIncreasing-from_distinct, sorted_from_strictly_increasing, below_from_sorted}
-use Rattle.std.proofs.lemmas.Map.Steps.{length-le_from_distinct_below}
-use Rattle.pc_lists.specs.Lists.{Each, Has, Differ}
-use Rattle.pc_lists.proofs.Gets.{get_below}
+use Rattle.std.specs.{Prelude.{◌≡◌, ℕ, ◌<◌, ◌≤◌, Bool, true, false, List, length, get_or, nat_eq, Some, IsPermutation, IsSorted, slice_get, refl}, List.{IsDistinct, Contains}, Ordering.nat_cmp}
+use Rattle.std.proofs.{Common.{ap, sym, ◌∙◌, arith}, lemmas.Bool.eqb-true, lemmas.Option.{slice_get-get_or, get_or_from_slice_get}, lemmas.List.Sorted.{Contains-permutation, IsPermutation-sym, IsNonDecreasingBy-from_sort}, lemmas.Map.Keys.{IsDistinct-from_apart, IsDistinct-IsPermutation, IsStrictlyIncreasing-from_distinct, sorted_from_strictly_increasing, below_from_sorted}, lemmas.Map.Steps.length-le_from_distinct_below}
+use Rattle.pc_base.specs.Lists.{Each, Has, Differ}
+use Rattle.pc_base.proofs.Gets.{get_below}
 use Rattle.pc_sends.specs.Growth.{Sorts}
 use Rattle.pc_sends.proofs.Grows.{any_iff}
 

@@ -1,22 +1,11 @@
 -- The rows of the table, entity by entity, and what is the target of none.
 use Rattle.std.specs.Prelude.{◌≡◌, ◌⊎◌, ◌↔◌, ℕ, ◌+◌, ◌-◌, ◌<◌, ◌≤◌, List, [], ◌++◌, map, length, Option, Some, slice_get, refl}
-use Rattle.std.proofs.Common.{inl, inr, ap, sym, subst, ◌∙◌, arith}
-use Rattle.std.proofs.lemmas.Option.{none-some}
-use Rattle.std.proofs.lemmas.Bool.{cases_lt}
-use Rattle.pc_core.specs.CoreData.{CoreData}
-use Rattle.pc_core.specs.Formed.{Formed}
-use Rattle.pc_lists.specs.Lists.{Each, Has, Ascends}
-use Rattle.pc_lists.proofs.Elements.{has_front, has_behind, has_either}
-use Rattle.pc_lists.proofs.Gets.{get_below, get_map, map_get, append_get}
-use Rattle.pc_sends.specs.declared.table.Row.{Row}
+use Rattle.std.proofs.{Common.{inl, inr, ap, sym, subst, ◌∙◌, arith}, lemmas.Option.none-some, lemmas.Bool.cases_lt}
+use Rattle.pc_core.specs.{CoreData.CoreData, Formed.Formed}
+use Rattle.pc_base.specs.Lists.{Each, Has, Ascends}
+use Rattle.pc_base.proofs.{Elements.{has_front, has_behind, has_either}, Gets.{get_below, get_map, map_get, append_get}}
+use Rattle.pc_sends.specs.{declared.table.Row.Row, declared.table.Table.Table, Growth.{Grown, OfSome, Sorts}, Tables.{Sends, row, RowBefore, InOrder, IsOfActor, IsLater, IsNever, IsTable, TableTells}, Unsent.IsUnsent, Found.MayWait, Covering.ReachCovers, Reached.{IsReach, AreSent}}
 use Rattle.pc_semantics.specs.Configurations.{Configuration, main_create}
-use Rattle.pc_sends.specs.declared.table.Table.{Table}
-use Rattle.pc_sends.specs.Growth.{Grown, OfSome, Sorts}
-use Rattle.pc_sends.specs.Tables.{Sends, row, RowBefore, InOrder, IsOfActor, IsLater, IsNever, IsTable, TableTells}
-use Rattle.pc_sends.specs.Unsent.{IsUnsent}
-use Rattle.pc_sends.specs.Found.{MayWait}
-use Rattle.pc_sends.specs.Covering.{ReachCovers}
-use Rattle.pc_sends.specs.Reached.{IsReach, AreSent}
 
 -- ---- rows
 

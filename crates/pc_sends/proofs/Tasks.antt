@@ -1,41 +1,19 @@
 -- Each task keeps its frame's method, and what it makes, begins or sends is what its node names.
-use Rattle.std.specs.Prelude.{◌≡◌, ℕ, ◌-◌, ◌<◌, ◌≤◌, Bool, true, false, ◌&&◌, List, [], ◌∷◌, ◌++◌, length, Option, Some, None, nat_eq, nat_lt, slice_get, refl}
+use Rattle.std.specs.{Prelude.{◌≡◌, ℕ, ◌-◌, ◌<◌, ◌≤◌, Bool, true, false, ◌&&◌, List, [], ◌∷◌, ◌++◌, length, Option, Some, None, nat_eq, nat_lt, slice_get, refl}, FinMap.get}
 use Rattle.std.proofs.Common.{ap, sym, subst, ◌∙◌, arith}
-use Rattle.std.specs.FinMap.{get}
-use Rattle.pc_lists.proofs.Gets.{get_within}
-use Rattle.pc_lists.proofs.Options.{bind_is}
-use Rattle.pc_heap.specs.Objects.{ObjectMap, Object}
-use Rattle.pc_heap.specs.declared.value.Address.{Address}
-use Rattle.pc_heap.specs.declared.value.Value.{Value}
-use Rattle.pc_heap.specs.declared.value.Value.TheVariants.{Num, Truth, Text, Prim, At}
+use Rattle.pc_base.proofs.{Gets.get_within, Options.bind_is}
+use Rattle.pc_heap.specs.{Objects.{ObjectMap, Object}, declared.value.Address.Address, declared.value.Value.Value, declared.value.Value.TheVariants.{Num, Truth, Text, Prim, At}}
 use Rattle.pc_tree.specs.declared.kinds.Op.{Op}
 use Rattle.pc_tree.specs.declared.kinds.Op.TheVariants as op
-use Rattle.pc_core.specs.declared.declarations.Method.{Method}
-use Rattle.pc_core.specs.declared.declarations.MethodKind.{MethodKind}
+use Rattle.pc_core.specs.{declared.declarations.Method.Method, declared.declarations.MethodKind.MethodKind, declared.nodes.Node.Node, declared.nodes.NodeKind.NodeKind, CoreData.{CoreData, method_named}, Nodes.HasArity, Formed.Formed}
 use Rattle.pc_core.specs.declared.declarations.MethodKind.TheVariants as method
-use Rattle.pc_core.specs.declared.nodes.Node.{Node}
-use Rattle.pc_core.specs.declared.nodes.NodeKind.{NodeKind}
 use Rattle.pc_core.specs.declared.nodes.NodeKind.TheVariants as node
-use Rattle.pc_core.specs.CoreData.{CoreData, method_named}
-use Rattle.pc_lists.specs.Lists.{Each}
-use Rattle.pc_core.specs.Nodes.{HasArity}
-use Rattle.pc_core.specs.Formed.{Formed}
-use Rattle.pc_semantics.specs.declared.frames.Frame.{Frame}
-use Rattle.pc_semantics.specs.declared.frames.Task.{Task}
+use Rattle.pc_base.specs.{Lists.Each, Limits.text_limit}
+use Rattle.pc_semantics.specs.{declared.frames.Frame.Frame, declared.frames.Task.Task, declared.mailbox.Message.Message, Configurations.{own_address, blank_object, Around, Move, Stuck, Overflows, Goes, Spawns, Sends, Leaves, with_stack, pushed, none, popped}, Children.evaluations, Parts.{push_slot, take_slot, evaluate_node, get_value, get_field, get_of, get_from, put_value, put_field, put_of, put_into, begin_new, make_of, spawn_of, enter, send, push_text, invoke_found, invoke_method, invoke_on, leave_object, return_task, push_or_lack, negated, compared, at_node}, Evaluation.{item_tasks, first_then, evaluate, truth, apply_task, right_side, test_and, test_or, test_task, branch, loop_turn, of_numbers, of_truths, of_texts, binary}, Calls.{get_task, put_task, store, store_task, counted, is_string, text_of, make_task, spawn_task, invoke_kind, invoke_task, leave}, Step.task_move}
 use Rattle.pc_semantics.specs.declared.frames.Task.TheVariants as task
-use Rattle.pc_semantics.specs.declared.mailbox.Message.{Message}
 use Rattle.pc_semantics.specs.declared.outcome.Lack.TheVariants as lack
-use Rattle.pc_semantics.specs.Configurations.{own_address, blank_object, Around, Move, Stuck, Overflows, Goes, Spawns, Sends, Leaves, with_stack, pushed, none, popped}
-use Rattle.pc_semantics.specs.Children.{evaluations}
-use Rattle.pc_semantics.specs.Parts.{push_slot, take_slot, evaluate_node, get_value, get_field, get_of, get_from, put_value, put_field, put_of, put_into, begin_new, make_of, spawn_of, enter, send, push_text, invoke_found, invoke_method, invoke_on, leave_object, return_task, push_or_lack, negated, compared, at_node}
-use Rattle.pc_semantics.specs.Evaluation.{item_tasks, first_then, evaluate, truth, apply_task, right_side, test_and, test_or, test_task, branch, loop_turn, of_numbers, of_truths, of_texts, binary}
-use Rattle.pc_semantics.specs.Calls.{get_task, put_task, store, store_task, counted, is_string, text_of, make_task, spawn_task, invoke_kind, invoke_task, leave}
-use Rattle.pc_caps.specs.Limits.{text_limit}
-use Rattle.pc_semantics.specs.Step.{task_move}
-use Rattle.pc_sends.specs.Held.{receiver_child, call_in, IsNoted}
-use Rattle.pc_sends.specs.Tables.{is_called, last_child_of, noted_at, Aims, UsesMethod, IsSent, Posts}
-use Rattle.pc_sends.proofs.Homes.{NodeIn, children_in, body_in}
-use Rattle.pc_sends.proofs.Moves.{TaskIn, TasksIn, FrameOf, MoveIn, tasks_in, evaluations_in, items_in, cond_in, top_in, popped_in}
+use Rattle.pc_sends.specs.{Held.{receiver_child, call_in, IsNoted}, Tables.{is_called, last_child_of, noted_at, Aims, UsesMethod, IsSent, Posts}}
+use Rattle.pc_sends.proofs.{Homes.{NodeIn, children_in, body_in}, Moves.{TaskIn, TasksIn, FrameOf, MoveIn, tasks_in, evaluations_in, items_in, cond_in, top_in, popped_in}}
 
 -- What is called is as it is noted.
 abbrev pub CallNoted : CoreData → List (Option ℕ) → ObjectMap → List Task → List Value → Type 0

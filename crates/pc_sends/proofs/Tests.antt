@@ -1,10 +1,8 @@
 -- Tests of what is at a place of a list, and of what a list with one more element has.
 use Rattle.std.specs.Prelude.{◌≡◌, ◌⊎◌, ◌↔◌, ℕ, Bool, true, false, List, [], ◌∷◌, ◌++◌, Some, None, IsTrue, if◌then◌else◌, slice_get}
-use Rattle.std.proofs.Common.{inl, inr, ap, sym, ◌∙◌}
-use Rattle.std.proofs.lemmas.Option.{same_Some, none-some}
-use Rattle.pc_lists.specs.Lists.{Has, Differ}
-use Rattle.pc_lists.proofs.Bools.{false_true}
-use Rattle.pc_lists.proofs.Gets.{get_push}
+use Rattle.std.proofs.{Common.{inl, inr, ap, sym, ◌∙◌}, lemmas.Option.{same_Some, none-some}}
+use Rattle.pc_base.specs.Lists.{Has, Differ}
+use Rattle.pc_base.proofs.{Bools.false_true, Gets.get_push}
 use Rattle.pc_sends.specs.Growth.{Grown}
 
 -- There is something at a place, and it passes a test.

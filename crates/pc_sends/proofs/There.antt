@@ -1,18 +1,10 @@
 -- What is in Reach is a method of the core.
-use Rattle.std.specs.Prelude.{◌≡◌, ℕ, ◌<◌, List, length, Option, Some, slice_get, codes, position}
-use Rattle.std.proofs.Common.{ap, sym, ◌∙◌}
-use Rattle.std.proofs.lemmas.Option.{same_Some}
-use Rattle.std.specs.Str.{bytes_eq}
-use Rattle.pc_lists.proofs.Gets.{get_below}
-use Rattle.pc_core.specs.declared.nodes.NodeKind.{NodeKind}
+use Rattle.std.specs.{Prelude.{◌≡◌, ℕ, ◌<◌, List, length, Option, Some, slice_get, codes, position}, Str.bytes_eq}
+use Rattle.std.proofs.{Common.{ap, sym, ◌∙◌}, lemmas.Option.same_Some}
+use Rattle.pc_base.proofs.{Gets.get_below, Options.bind_some}
+use Rattle.pc_core.specs.{declared.nodes.NodeKind.NodeKind, CoreData.{CoreData, method_named}, Members.method_found, Nodes.NamesFit, Formed.Formed}
 use Rattle.pc_core.specs.declared.nodes.NodeKind.TheVariants as nodes
-use Rattle.pc_core.specs.CoreData.{CoreData, method_named}
-use Rattle.pc_lists.proofs.Options.{bind_some}
-use Rattle.pc_core.specs.Members.{method_found}
-use Rattle.pc_core.specs.Nodes.{NamesFit}
-use Rattle.pc_core.specs.Formed.{Formed}
-use Rattle.pc_semantics.specs.Configurations.{main_create}
-use Rattle.pc_semantics.specs.Parts.{number_of_entity}
+use Rattle.pc_semantics.specs.{Configurations.main_create, Parts.number_of_entity}
 use Rattle.pc_sends.specs.Tables.{Aims, Reach, first, next}
 use Rattle.pc_sends.proofs.Moves.{IsThere}
 

@@ -1,23 +1,12 @@
 -- What a walk over methods finds, step by step.
 use Rattle.std.specs.Prelude.{◌≡◌, ◌⊎◌, ◌↔◌, ℕ, ◌+◌, ◌-◌, Bool, List, [], Option, Some, None, slice_get, if◌then◌else◌}
-use Rattle.std.proofs.Common.{inl, inr, ap, sym, subst, ◌∙◌, arith}
-use Rattle.std.proofs.lemmas.Option.{same_Some, none-some}
-use Rattle.pc_core.specs.declared.declarations.Method.{Method}
-use Rattle.pc_core.specs.declared.nodes.Node.{Node}
-use Rattle.pc_core.specs.declared.nodes.NodeKind.{NodeKind}
+use Rattle.std.proofs.{Common.{inl, inr, ap, sym, subst, ◌∙◌, arith}, lemmas.Option.{same_Some, none-some}}
+use Rattle.pc_core.specs.{declared.declarations.Method.Method, declared.nodes.Node.Node, declared.nodes.NodeKind.NodeKind, CoreData.{CoreData, method_named, node_end}, Formed.Formed, Further.own_nodes}
 use Rattle.pc_core.specs.declared.nodes.NodeKind.TheVariants as nodes
-use Rattle.pc_core.specs.CoreData.{CoreData, method_named, node_end}
-use Rattle.pc_core.specs.Formed.{Formed}
-use Rattle.pc_core.specs.Further.{own_nodes}
-use Rattle.pc_lists.specs.Lists.{◌>>=◌, Has}
-use Rattle.pc_lists.proofs.Options.{bind_some, bind_is, kept}
-use Rattle.pc_lists.proofs.Gets.{get_within, get_range, range_get}
-use Rattle.pc_sends.specs.Tables.{MayBe, is_called, MayCall, noted_receiver, Aims, UsesMethod}
-use Rattle.pc_sends.specs.Found.{ListsMayBe, called_in, CallsAreFound}
-use Rattle.pc_sends.specs.Growth.{Grown, OfSome}
-use Rattle.pc_sends.proofs.Grows.{grown_same, grown_there, grown_kept}
-use Rattle.pc_sends.proofs.Homes.{node_range, own_node, method_there}
-use Rattle.pc_sends.proofs.Listed.{known_below}
+use Rattle.pc_base.specs.Lists.{◌>>=◌, Has}
+use Rattle.pc_base.proofs.{Options.{bind_some, bind_is, kept}, Gets.{get_within, get_range, range_get}}
+use Rattle.pc_sends.specs.{Tables.{MayBe, is_called, MayCall, noted_receiver, Aims, UsesMethod}, Found.{ListsMayBe, called_in, CallsAreFound}, Growth.{Grown, OfSome}}
+use Rattle.pc_sends.proofs.{Grows.{grown_same, grown_there, grown_kept}, Homes.{node_range, own_node, method_there}, Listed.known_below}
 
 -- ---- calls
 

@@ -2,8 +2,8 @@
 use Rattle.std.specs.Prelude.{ℕ, List, Option}
 use Rattle.pc_core.specs.{CoreData.CoreData, Formed.Formed, declared.declarations.Method.Method}
 use Rattle.pc_semantics.specs.{Step.after, declared.mailbox.Message.Message, Configurations.Configuration}
-use Rattle.pc_sends.specs.{Held.Held, Tables.Reach, Tables.Sends, Tables.IsSending, Found.MayWait}
-use Rattle.pc_lists.specs.Lists.{Each}
+use Rattle.pc_sends.specs.{Held.Held, Tables.{Reach, Sends, IsSending}, Found.MayWait}
+use Rattle.pc_base.specs.Lists.{Each}
 
 -- What holds at a configuration.
 pub record ReachCovers (core : CoreData) (ents : List (Option ℕ)) (c : Configuration) : Type 0 where

@@ -1,7 +1,7 @@
 -- What the code of `sends` finds on its way to the table.
 use Rattle.std.specs.Prelude.{◌≡◌, ◌⊎◌, ◌↔◌, ℕ, List, length, Some, slice_get, Option, None, if◌then◌else◌}
 use Rattle.pc_core.specs.CoreData.{CoreData, method_named}
-use Rattle.pc_lists.specs.Lists.{◌>>=◌, Has}
+use Rattle.pc_base.specs.Lists.{◌>>=◌, Has}
 use Rattle.pc_semantics.specs.Configurations.{main_create}
 use Rattle.pc_sends.specs.Tables.{MayBe, is_called, MayCall, Sends}
 

@@ -1,6 +1,6 @@
 -- How a list of distinct numbers has grown.
 use Rattle.std.specs.Prelude.{◌≡◌, ◌⊎◌, ◌↔◌, ℕ, ◌<◌, ◌≤◌, List, ◌++◌, Some, slice_get}
-use Rattle.pc_lists.specs.Lists.{Has, Differ, Ascends}
+use Rattle.pc_base.specs.Lists.{Has, Differ, Ascends}
 
 -- The numbers with P were appended, unless they were in the list already, and no others were.
 pub record Grown (P : ℕ → Type 0) (old new : List ℕ) : Type 0 where

@@ -4,8 +4,8 @@
 use Rattle.std.specs.Prelude.{◌≡◌, ℕ, List, Option, Some, None, slice_get}
 use Rattle.pc_heap.specs.{Objects.ObjectMap, declared.value.Value.Value}
 use Rattle.pc_core.specs.{declared.nodes.NodeKind.NodeKind, CoreData.CoreData}
-use Rattle.pc_lists.specs.Lists.{◌>>=◌}
-use Rattle.pc_semantics.specs.{declared.frames.Frame.Frame, declared.frames.Task.Task, Configurations.Configuration, Configurations.value_entity, Step.run_from, Step.after}
+use Rattle.pc_base.specs.Lists.{◌>>=◌}
+use Rattle.pc_semantics.specs.{declared.frames.Frame.Frame, declared.frames.Task.Task, Configurations.{Configuration, value_entity}, Step.{run_from, after}}
 use Rattle.pc_sends.specs.Tables.{MayBe, last_child_of, noted_at, running}
 use Rattle.pc_core.specs.declared.nodes.NodeKind.TheVariants as node
 use Rattle.pc_semantics.specs.declared.frames.Task.TheVariants as task

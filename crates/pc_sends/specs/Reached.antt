@@ -2,7 +2,7 @@
 -- ---- Reach
 use Rattle.std.specs.Prelude.{◌≡◌, ◌↔◌, ℕ, ◌<◌, true, List, Option, Some, slice_get}
 use Rattle.pc_core.specs.{declared.declarations.Method.Method, CoreData.CoreData}
-use Rattle.pc_lists.specs.Lists.{Each, Has, Differ, Ascends}
+use Rattle.pc_base.specs.Lists.{Each, Has, Differ, Ascends}
 use Rattle.pc_semantics.specs.Configurations.{main_create}
 use Rattle.pc_sends.specs.Tables.{UsesMethod, Reach, Sends, is_message}
 use Rattle.pc_core.specs.declared.declarations.MethodKind.TheVariants as method

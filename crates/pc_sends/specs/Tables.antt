@@ -1,9 +1,9 @@
 -- The table of who sends what.
 use Rattle.std.specs.Prelude.{◌≡◌, ◌⊎◌, ◌↔◌, ℕ, false, List, length, Some, slice_get, ◌-◌, Bool, true, Option, None, [], ◌∷◌, ◌<◌, ◌≤◌}
 use Rattle.pc_tree.specs.Kinds.{is_abstract, first_own}
-use Rattle.pc_core.specs.{declared.declarations.EntityDef.EntityDef, CoreData.CoreData, CoreData.method_named, Entities.Conforms, declared.declarations.Method.Method, declared.declarations.MethodKind.MethodKind, declared.nodes.Node.Node, declared.nodes.NodeKind.NodeKind}
-use Rattle.pc_lists.specs.Lists.{◌>>=◌, Has, Each, Ascends}
-use Rattle.pc_semantics.specs.{Configurations.main_create, Configurations.Configuration, declared.frames.Frame.Frame, declared.frames.Task.Task, declared.mailbox.Message.Message, Configurations.Around, Configurations.Move, Configurations.Spawns, Configurations.Sends as Sending, Step.task_move, Step.around}
+use Rattle.pc_core.specs.{declared.declarations.EntityDef.EntityDef, CoreData.{CoreData, method_named}, Entities.Conforms, declared.declarations.Method.Method, declared.declarations.MethodKind.MethodKind, declared.nodes.Node.Node, declared.nodes.NodeKind.NodeKind}
+use Rattle.pc_base.specs.Lists.{◌>>=◌, Has, Each, Ascends}
+use Rattle.pc_semantics.specs.{Configurations.{main_create, Configuration, Around, Move, Spawns, Sends as Sending}, declared.frames.Frame.Frame, declared.frames.Task.Task, declared.mailbox.Message.Message, Step.{task_move, around}}
 use Rattle.pc_sends.specs.{declared.table.Row.Row, declared.table.Table.Table}
 use Rattle.pc_core.specs.declared.declarations.MethodKind.TheVariants as method
 use Rattle.pc_core.specs.declared.nodes.NodeKind.TheVariants as nodes

@@ -1,9 +1,9 @@
 -- What is sent by no row of a table.
 use Rattle.std.specs.Prelude.{ℕ, List}
 use Rattle.pc_core.specs.CoreData.{CoreData}
-use Rattle.pc_lists.specs.Lists.{Has}
+use Rattle.pc_base.specs.Lists.{Has}
 use Rattle.pc_semantics.specs.Configurations.{main_create}
-use Rattle.pc_sends.specs.{declared.table.Row.Row, Tables.IsOfActor, Tables.IsLater, Tables.row}
+use Rattle.pc_sends.specs.{declared.table.Row.Row, Tables.{IsOfActor, IsLater, row}}
 
 -- A behaviour or a constructor of one of the file's actors, other than the one with which the program begins, that is
 -- the target of none of these rows.

@@ -1,6 +1,6 @@
 //! Calls that have been looked at.
 ghost use Rattle.std.specs.Prelude.{◌≡◌, ◌↔◌, ◌⊎◌, ℕ, [], IsTrue, OnOk};
-ghost use Rattle.pc_lists.specs.Lists.{Has};
+ghost use Rattle.pc_base.specs.Lists.{Has};
 
 use indexmap::IndexSet;
 use std::alloc::{AllocError, Global};

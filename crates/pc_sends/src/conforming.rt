@@ -1,11 +1,11 @@
 //! The entities that a value may have.
 ghost use Rattle.std.specs.Prelude.{◌≡◌, ◌↔◌, ◌<◌, ℕ, length, IsTrue, IfOk};
 ghost use Rattle.pc_core.specs.Further.{IsAbstract};
-ghost use Rattle.pc_lists.specs.Lists.{Has};
+ghost use Rattle.pc_base.specs.Lists.{Has};
 ghost use Rattle.pc_sends.specs.Tables as spec;
 ghost use Rattle.pc_sends.specs.Found as finding;
 
-use pc_caps::List;
+use pc_base::List;
 use pc_core::Core;
 use pc_sub::conforms;
 use std::alloc::{AllocError, Global};

@@ -1,6 +1,6 @@
 //! Numbers and calls that were found.
 ghost use Rattle.std.specs.Prelude.{◌≡◌, ◌↔◌, [], IsTrue, IfOk, OnOk, slice_get};
-ghost use Rattle.pc_lists.specs.Lists.{Has};
+ghost use Rattle.pc_base.specs.Lists.{Has};
 ghost use Rattle.pc_sends.specs.Growth.{Grown};
 
 use indexmap::IndexSet;

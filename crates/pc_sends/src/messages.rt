@@ -1,6 +1,6 @@
 //! What an entity's methods send.
 ghost use Rattle.std.specs.Prelude.{◌≡◌, ◌↔◌, ◌≤◌, ℕ, [], length, IsTrue, IfOk, OnOk};
-ghost use Rattle.pc_lists.specs.Lists.{Differ, Has};
+ghost use Rattle.pc_base.specs.Lists.{Differ, Has};
 ghost use Rattle.pc_sends.specs.Found.{ListsMayBe, CallsAreFound};
 ghost use Rattle.pc_sends.specs.Tables.{is_message};
 ghost use Rattle.pc_sends.specs.Growth.{Grown, OfSome, TurnsBelow};
@@ -9,7 +9,7 @@ ghost use Rattle.pc_sends.specs.Reached as spec;
 use crate::found::Found;
 use crate::sorting::ascending;
 use crate::walk::{Noted, Walk};
-use pc_caps::List;
+use pc_base::List;
 use pc_core::{Core, MethodKind};
 use std::alloc::{AllocError, Global};
 

@@ -1,6 +1,6 @@
 //! What is never sent.
 ghost use Rattle.std.specs.Prelude.{◌≡◌, ◌↔◌, ℕ, Some, IsTrue, IfOk, OnOk, List as Sequence, Option as Choice};
-ghost use Rattle.pc_lists.specs.Lists.{Ascends, Has};
+ghost use Rattle.pc_base.specs.Lists.{Ascends, Has};
 ghost use Rattle.pc_semantics.specs.Configurations as beginning;
 ghost use Rattle.pc_sends.specs.Tables.{Sends};
 ghost use Rattle.pc_sends.specs.Tables as spec;
@@ -9,7 +9,7 @@ ghost use Rattle.pc_sends.specs.Unsent as unsent;
 use crate::found::Found;
 use crate::messages::is_message;
 use crate::table::Row;
-use pc_caps::List;
+use pc_base::List;
 use pc_core::Core;
 use pc_semantics::main_create;
 use pc_tree::{EntityKind, FIRST_OWN};

@@ -1,6 +1,6 @@
 //! The rows of the table.
 ghost use Rattle.std.specs.Prelude.{◌≡◌, ◌↔◌, ◌++◌, ℕ, map, IfOk, OnOk};
-ghost use Rattle.pc_lists.specs.Lists.{Has};
+ghost use Rattle.pc_base.specs.Lists.{Has};
 ghost use Rattle.pc_sends.specs.Found.{ListsMayBe};
 ghost use Rattle.pc_sends.specs.Tables.{Sends};
 ghost use Rattle.pc_sends.specs.Reached.{IsReach};
@@ -10,7 +10,7 @@ use crate::found::Found;
 use crate::messages::sent_by;
 use crate::table::Row;
 use crate::walk::Noted;
-use pc_caps::List;
+use pc_base::List;
 use std::alloc::{AllocError, Global};
 
 // Appends the rows of an entity.

@@ -1,10 +1,10 @@
 //! Numbers in ascending order.
 ghost use Rattle.std.specs.Prelude.{IfOk};
-ghost use Rattle.pc_lists.specs.Lists.{Differ};
+ghost use Rattle.pc_base.specs.Lists.{Differ};
 ghost use Rattle.pc_sends.specs.Growth.{Sorts};
 
 use crate::found::Found;
-use pc_caps::List;
+use pc_base::List;
 use std::alloc::{AllocError, Global};
 
 /// The numbers that were found, in ascending order.

@@ -1,6 +1,6 @@
 //! The table of who sends what.
 
-use pc_caps::List;
+use pc_base::List;
 
 /// Methods of an entity may send a message: the entity's number, and the number of the method that is sent.
 #[derive(Clone, Copy, Debug, PartialEq, Eq)]

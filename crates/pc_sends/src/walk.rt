@@ -3,7 +3,7 @@ ghost use Rattle.std.specs.Prelude.{◌≡◌, ◌↔◌, ◌⊎◌, ◌≤◌, 
 ghost use Rattle.std.specs.Option.{option_copied};
 ghost use Rattle.pc_core.specs.CoreData.{node_end};
 ghost use Rattle.pc_core.specs.Further.{own_nodes};
-ghost use Rattle.pc_lists.specs.Lists.{Has};
+ghost use Rattle.pc_base.specs.Lists.{Has};
 ghost use Rattle.pc_sends.specs.Found.{ListsMayBe};
 ghost use Rattle.pc_sends.specs.Growth.{Grown, OfSome};
 ghost use Rattle.pc_sends.specs.Tables as spec;
@@ -11,7 +11,7 @@ ghost use Rattle.pc_sends.specs.Found as finding;
 
 use crate::calls::Calls;
 use crate::found::Found;
-use pc_caps::List;
+use pc_base::List;
 use pc_core::{Core, Method, MethodKind, Node, NodeKind};
 use std::alloc::{AllocError, Global};
 

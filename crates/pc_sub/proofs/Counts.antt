@@ -1,15 +1,8 @@
 -- A method has few parameters: each has a slot.
 use Rattle.std.specs.Prelude.{◌≡◌, ℕ, ◌+◌, ◌<◌, ◌^◌, List, ◌∷◌, ◌++◌, map, length, Some, get_or, slice_get, refl}
-use Rattle.std.proofs.Common.{inl, inr, ap, sym, subst, ◌∙◌, arith}
-use Rattle.std.proofs.lemmas.List.{length-map, length-append}
-use Rattle.std.proofs.lemmas.Option.{same_Some, slice_get_read}
-use Rattle.pc_lists.proofs.Gets.{get_within, get_range}
-use Rattle.pc_core.specs.declared.declarations.Method.{Method}
-use Rattle.pc_core.specs.declared.nodes.Slot.{Slot}
-use Rattle.pc_core.specs.CoreData.{CoreData, own_slots}
-use Rattle.pc_core.specs.Methods.{SlotsFit}
-use Rattle.pc_core.specs.Entities.{this_slot, param_slot}
-use Rattle.pc_core.specs.Formed.{Formed}
+use Rattle.std.proofs.{Common.{inl, inr, ap, sym, subst, ◌∙◌, arith}, lemmas.List.{length-map, length-append}, lemmas.Option.{same_Some, slice_get_read}}
+use Rattle.pc_base.proofs.Gets.{get_within, get_range}
+use Rattle.pc_core.specs.{declared.declarations.Method.Method, declared.nodes.Slot.Slot, CoreData.{CoreData, own_slots}, Methods.SlotsFit, Entities.{this_slot, param_slot}, Formed.Formed}
 
 -- The last parameter has a slot.
 in_slots : (core : CoreData) (m : ℕ) (x : Method) → SlotsFit core m x → length x.params < x.slots

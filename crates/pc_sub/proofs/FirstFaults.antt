@@ -1,22 +1,11 @@
 -- The first declaration that fails is the first of the faults that are computed.
 use Rattle.std.specs.Prelude.{◌≡◌, ◌↔◌, ℕ, ◌+◌, Bool, true, false, cond, List, [], ◌∷◌, Option, Some, None, slice_get, refl}
-use Rattle.std.proofs.Common.{inl, inr, ap, sym, subst, ◌∙◌, arith}
-use Rattle.std.proofs.lemmas.Option.{same_Some, none-some, cond_some}
+use Rattle.std.proofs.{Common.{inl, inr, ap, sym, subst, ◌∙◌, arith}, lemmas.Option.{same_Some, none-some, cond_some}}
 use Rattle.pc_caps.specs.Tables.{sendable}
-use Rattle.pc_core.specs.declared.declarations.EntityDef.{EntityDef}
-use Rattle.pc_core.specs.declared.declarations.Method.{Method}
-use Rattle.pc_core.specs.declared.declarations.ParamInfo.{ParamInfo}
-use Rattle.pc_core.specs.CoreData.{CoreData, IsMethod, method_named, own_methods}
-use Rattle.pc_core.specs.Entities.{Conforms, HasFor}
-use Rattle.pc_core.specs.Formed.{Formed}
-use Rattle.pc_core.specs.Members.{method_found}
-use Rattle.pc_lists.proofs.Options.{bind_some}
-use Rattle.pc_lists.specs.Lists.{Each}
-use Rattle.pc_sub.specs.Declarations.{DeclOk, TakesSendable, takes_sendable}
-use Rattle.pc_sub.specs.DeclarationLaws.{NoFaultWhereFit, OneFirstFault, FirstIsComputed}
-use Rattle.pc_sub.specs.FirstFault.{FirstWithout, FirstLack, IsLike, IsFirstDeclarationFault}
-use Rattle.pc_sub.specs.Faults.{all_sent, conformed, conforms, has_like, held, kinds_equal, like_has, list_conformed, list_conforms, looked, named, named_like, none_iff_fits, one_method, sent_all, takes_all, unless, unlooked}
-use Rattle.pc_sub.specs.declared.faults.DeclFault.{DeclFault}
+use Rattle.pc_core.specs.{declared.declarations.EntityDef.EntityDef, declared.declarations.Method.Method, declared.declarations.ParamInfo.ParamInfo, CoreData.{CoreData, IsMethod, method_named, own_methods}, Entities.{Conforms, HasFor}, Formed.Formed, Members.method_found}
+use Rattle.pc_base.proofs.Options.{bind_some}
+use Rattle.pc_base.specs.Lists.{Each}
+use Rattle.pc_sub.specs.{Declarations.{DeclOk, TakesSendable, takes_sendable}, DeclarationLaws.{NoFaultWhereFit, OneFirstFault, FirstIsComputed}, FirstFault.{FirstWithout, FirstLack, IsLike, IsFirstDeclarationFault}, Faults.{all_sent, conformed, conforms, has_like, held, kinds_equal, like_has, list_conformed, list_conforms, looked, named, named_like, none_iff_fits, one_method, sent_all, takes_all, unless, unlooked}, declared.faults.DeclFault.DeclFault}
 use Rattle.pc_sub.specs.declared.faults.DeclFault.TheVariants as fault
 use Rattle.pc_sub.specs.DeclarationFaults as conform
 use Rattle.pc_sub.proofs.Firsts.{either, first_element, first_once, first_same}

@@ -1,11 +1,8 @@
 -- The first element of a list that does not have a property; and, of faults that are looked for element by element, the
 -- first.
 use Rattle.std.specs.Prelude.{◌≡◌, ◌⊎◌, ◌↔◌, ℕ, zero, suc, ◌+◌, ◌<◌, List, [], ◌∷◌, ◌++◌, Some, None, slice_get, refl}
-use Rattle.std.proofs.Common.{inl, inr, ap, sym, subst, ◌∙◌, arith}
-use Rattle.std.proofs.lemmas.Bool.{cases_lt}
-use Rattle.std.proofs.lemmas.Option.{same_Some, none-some}
-use Rattle.pc_sub.specs.FirstFault.{FirstWithout}
-use Rattle.pc_sub.specs.declared.faults.DeclFault.{DeclFault}
+use Rattle.std.proofs.{Common.{inl, inr, ap, sym, subst, ◌∙◌, arith}, lemmas.Bool.cases_lt, lemmas.Option.{same_Some, none-some}}
+use Rattle.pc_sub.specs.{FirstFault.FirstWithout, declared.faults.DeclFault.DeclFault}
 
 -- ---- there is at most one
 

@@ -1,16 +1,10 @@
 -- Methods that are put into groups, one by one.
 use Rattle.std.specs.Prelude.{◌≡◌, ◌⊎◌, ℕ, zero, suc, ◌+◌, ◌<◌, List, [], ◌∷◌, ◌++◌, length, Option, Some, None, get_or, slice_get, slice_set, refl}
-use Rattle.std.proofs.Common.{inl, inr, sym, ap, subst, ◌∙◌, arith}
-use Rattle.std.proofs.lemmas.Bool.{cases_eq}
-use Rattle.std.proofs.lemmas.List.{length-set, length_push, set-set}
-use Rattle.std.proofs.lemmas.Option.{same_Some, none-some, slice_get-get_or, get_or_from_slice_get}
-use Rattle.pc_lists.specs.Lists.{◌>>=◌, Each, Has}
-use Rattle.pc_lists.proofs.Gets.{get_below, get_behind, get_front, get_push, get_set, get_set_same, get_set_other}
-use Rattle.pc_lists.proofs.Options.{bind_some}
-use Rattle.pc_core.specs.declared.declarations.Method.{Method}
-use Rattle.pc_core.specs.CoreData.{CoreData}
-use Rattle.pc_sub.specs.Alike.{Alike}
-use Rattle.pc_sub.specs.Groups.{Grouped, HasAlike, InGroup, IsGroupOf, first_of}
+use Rattle.std.proofs.{Common.{inl, inr, sym, ap, subst, ◌∙◌, arith}, lemmas.Bool.cases_eq, lemmas.List.{length-set, length_push, set-set}, lemmas.Option.{same_Some, none-some, slice_get-get_or, get_or_from_slice_get}}
+use Rattle.pc_base.specs.Lists.{◌>>=◌, Each, Has}
+use Rattle.pc_base.proofs.{Gets.{get_below, get_behind, get_front, get_push, get_set, get_set_same, get_set_other}, Options.bind_some}
+use Rattle.pc_core.specs.{declared.declarations.Method.Method, CoreData.CoreData}
+use Rattle.pc_sub.specs.{Alike.Alike, Groups.{Grouped, HasAlike, InGroup, IsGroupOf, first_of}}
 
 -- ---- lists
 

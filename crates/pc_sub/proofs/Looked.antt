@@ -1,9 +1,8 @@
 -- Numbers of a list that were looked at, one by one.
 use Rattle.std.specs.Prelude.{◌≡◌, ◌⊎◌, ◌↔◌, ℕ, ◌+◌, ◌<◌, ◌≤◌, List, length, Some, slice_get}
-use Rattle.std.proofs.Common.{inl, inr, sym, ap, ◌∙◌, arith}
-use Rattle.std.proofs.lemmas.Option.{same_Some}
-use Rattle.pc_lists.specs.Lists.{Has}
-use Rattle.pc_lists.proofs.Gets.{get_below}
+use Rattle.std.proofs.{Common.{inl, inr, sym, ap, ◌∙◌, arith}, lemmas.Option.same_Some}
+use Rattle.pc_base.specs.Lists.{Has}
+use Rattle.pc_base.proofs.Gets.{get_below}
 use Rattle.pc_sub.proofs.Grouping.{split}
 
 -- The number is one of the first n of these.

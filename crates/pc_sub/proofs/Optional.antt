@@ -1,8 +1,7 @@
 -- A test of a method that may be missing.
 use Rattle.std.specs.Prelude.{◌≡◌, ◌↔◌, Bool, false, Option, Some, None, IsTrue}
-use Rattle.std.proofs.Common.{sym, subst, ◌∙◌}
-use Rattle.std.proofs.lemmas.Option.{same_Some, none-some}
-use Rattle.pc_lists.proofs.Bools.{false_true}
+use Rattle.std.proofs.{Common.{sym, subst, ◌∙◌}, lemmas.Option.{same_Some, none-some}}
+use Rattle.pc_base.proofs.Bools.{false_true}
 use Rattle.pc_core.specs.declared.declarations.Method.{Method}
 
 -- There is a method with this property.

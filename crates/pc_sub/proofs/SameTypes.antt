@@ -1,11 +1,10 @@
 -- Parameters that are compared one by one, by their types.
 use Rattle.std.specs.Prelude.{◌≡◌, ◌↔◌, ℕ, ◌<◌, true, false, List, [], ◌∷◌, length, map, IsTrue, nat_eq, refl}
-use Rattle.std.proofs.Common.{ap, sym, ◌∙◌, arith}
-use Rattle.std.proofs.lemmas.Bool.{and_from, and_parts, eqb-true, eq-eqb}
+use Rattle.std.proofs.{Common.{ap, sym, ◌∙◌, arith}, lemmas.Bool.{and_from, and_parts, eqb-true, eq-eqb}}
 use Rattle.pc_caps.specs.declared.capability.Cap.{Cap}
 use Rattle.pc_caps.specs.declared.capability.Cap.TheVariants as cap
 use Rattle.pc_core.specs.declared.declarations.ParamInfo.{ParamInfo}
-use Rattle.pc_lists.proofs.Bools.{false_true}
+use Rattle.pc_base.proofs.Bools.{false_true}
 use Rattle.pc_sub.specs.Alike.{param_type, same_cap, same_type, same_types}
 
 caps_equal : (a b : Cap) → same_cap a b ≡ true → a ≡ b

@@ -1,14 +1,8 @@
 -- What a search in ascending numbers has found.
-use Rattle.std.specs.Prelude.{◌≡◌, ◌⊎◌, ◌↔◌, ℕ, zero, suc, ◌<◌, ◌≤◌, List, [], ◌∷◌, length, Some, Result, Ok, Err, IsTrue, slice_get, refl}
-use Rattle.std.specs.Result.{is_ok}
-use Rattle.std.proofs.Common.{inl, inr, get_or, sym, ap, subst, ◌∙◌, arith}
-use Rattle.std.specs.List.Sorted.{IsBinarySearchResult}
-use Rattle.std.specs.Ordering.{nat_cmp}
-use Rattle.std.proofs.lemmas.List.Sorted.{searched}
-use Rattle.std.proofs.lemmas.Option.{same_Some}
-use Rattle.pc_lists.specs.Lists.{Ascends, Has}
-use Rattle.pc_lists.proofs.Bools.{false_true}
-use Rattle.pc_lists.proofs.Gets.{get_below}
+use Rattle.std.specs.{Prelude.{◌≡◌, ◌⊎◌, ◌↔◌, ℕ, zero, suc, ◌<◌, ◌≤◌, List, [], ◌∷◌, length, Some, Result, Ok, Err, IsTrue, slice_get, refl}, Result.is_ok, List.Sorted.IsBinarySearchResult, Ordering.nat_cmp}
+use Rattle.std.proofs.{Common.{inl, inr, get_or, sym, ap, subst, ◌∙◌, arith}, lemmas.List.Sorted.searched, lemmas.Option.same_Some}
+use Rattle.pc_base.specs.Lists.{Ascends, Has}
+use Rattle.pc_base.proofs.{Bools.false_true, Gets.get_below}
 
 got : (xs : List ℕ) (i : ℕ) → i < length xs → slice_get xs i ≡ Some (get_or xs i 0)
 got [] i l = absurd (omega (arith, l))

@@ -1,18 +1,11 @@
 -- Which entities have a method for a declared one, by the groups that serve for it.
 use Rattle.std.specs.Prelude.{◌≡◌, ◌⊎◌, ◌↔◌, ℕ, ◌+◌, ◌<◌, ◌≤◌, List, [], length, Some, get_or, slice_get}
-use Rattle.std.proofs.Common.{inl, inr, sym, ap, subst, ◌∙◌, arith}
-use Rattle.std.proofs.lemmas.Option.{same_Some, get_or_from_slice_get, slice_get-get_or}
-use Rattle.pc_lists.specs.Lists.{Each, Has}
-use Rattle.pc_lists.proofs.Gets.{get_below}
-use Rattle.pc_core.specs.declared.declarations.Method.{Method}
-use Rattle.pc_core.specs.CoreData.{CoreData}
-use Rattle.pc_core.specs.Entities.{HasFor}
-use Rattle.pc_core.specs.Formed.{Formed}
-use Rattle.pc_sub.specs.declared.groups.Groups.{Groups}
-use Rattle.pc_sub.specs.Alike.{Alike}
-use Rattle.pc_sub.specs.Groups.{GroupServes, Grouped, HasAlike, InGroup, IsGroup, Serves, ServesBy, first_of}
-use Rattle.pc_sub.proofs.Grouping.{first_within, split}
-use Rattle.pc_sub.proofs.StandsAlike.{alike_back, alike_stands}
+use Rattle.std.proofs.{Common.{inl, inr, sym, ap, subst, ◌∙◌, arith}, lemmas.Option.{same_Some, get_or_from_slice_get, slice_get-get_or}}
+use Rattle.pc_base.specs.Lists.{Each, Has}
+use Rattle.pc_base.proofs.Gets.{get_below}
+use Rattle.pc_core.specs.{declared.declarations.Method.Method, CoreData.CoreData, Entities.HasFor, Formed.Formed}
+use Rattle.pc_sub.specs.{declared.groups.Groups.Groups, Alike.Alike, Groups.{GroupServes, Grouped, HasAlike, InGroup, IsGroup, Serves, ServesBy, first_of}}
+use Rattle.pc_sub.proofs.{Grouping.{first_within, split}, StandsAlike.{alike_back, alike_stands}}
 
 -- The entity has a method of one of the first n of these groups, and it serves.
 abbrev pub ServesTo : CoreData → Groups → Method → List ℕ → ℕ → ℕ → Type 0

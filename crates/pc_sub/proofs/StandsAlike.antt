@@ -1,15 +1,9 @@
 -- If two methods are alike, what holds for one holds for the other.
 use Rattle.std.specs.Prelude.{◌≡◌, ℕ, List, map, length, Some, slice_get}
-use Rattle.std.proofs.Common.{sym, ap, subst, ◌∙◌}
-use Rattle.std.proofs.lemmas.List.{length-map}
-use Rattle.pc_caps.specs.Tables.{IsBelow, unalias}
-use Rattle.pc_caps.specs.declared.capability.Cap.{Cap}
-use Rattle.pc_caps.specs.declared.capability.Form.{Form}
-use Rattle.pc_core.specs.declared.declarations.Method.{Method}
-use Rattle.pc_core.specs.declared.declarations.ParamInfo.{ParamInfo}
-use Rattle.pc_core.specs.CoreData.{CoreData}
-use Rattle.pc_core.specs.Entities.{Chain, StandsFor, HasFor}
-use Rattle.pc_lists.proofs.Gets.{get_map, map_get}
+use Rattle.std.proofs.{Common.{sym, ap, subst, ◌∙◌}, lemmas.List.length-map}
+use Rattle.pc_caps.specs.{Tables.{IsBelow, unalias}, declared.capability.Cap.Cap, declared.capability.Form.Form}
+use Rattle.pc_core.specs.{declared.declarations.Method.Method, declared.declarations.ParamInfo.ParamInfo, CoreData.CoreData, Entities.{Chain, StandsFor, HasFor}}
+use Rattle.pc_base.proofs.Gets.{get_map, map_get}
 use Rattle.pc_sub.specs.Alike.{Alike, param_type}
 
 pub alike_back : (t y : Method) → Alike t y → Alike y t

@@ -1,28 +1,12 @@
 -- A table of what conforms to what, as it is narrowed group by group.
 use Rattle.std.specs.Prelude.{◌≡◌, ◌⊎◌, ◌↔◌, ℕ, ◌+◌, ◌-◌, ◌<◌, ◌≤◌, List, length, Some, None, slice_get, slice_set, refl}
-use Rattle.std.proofs.Common.{inl, inr, sym, ap, subst, ◌∙◌, arith}
-use Rattle.std.proofs.lemmas.Bool.{cases_eq}
-use Rattle.std.proofs.lemmas.List.{length-set}
-use Rattle.std.proofs.lemmas.Option.{same_Some, none-some}
+use Rattle.std.proofs.{Common.{inl, inr, sym, ap, subst, ◌∙◌, arith}, lemmas.Bool.cases_eq, lemmas.List.length-set, lemmas.Option.{same_Some, none-some}}
 use Rattle.pc_masks.specs.declared.mask.Mask.{Mask}
-use Rattle.pc_lists.specs.Lists.{Each, Has}
-use Rattle.pc_lists.proofs.Gets.{get_below, get_range, get_set_same, get_set_other, range_get}
-use Rattle.pc_core.specs.declared.declarations.EntityDef.{EntityDef}
-use Rattle.pc_core.specs.declared.declarations.Method.{Method}
-use Rattle.pc_core.specs.CoreData.{CoreData}
-use Rattle.pc_core.specs.Conforming.{TellsConforming}
-use Rattle.pc_core.specs.Entities.{Conforms, HasFor}
-use Rattle.pc_core.specs.Further.{IsAbstract}
-use Rattle.pc_core.specs.EntitySets.{Holds, IsSetOf}
-use Rattle.pc_core.specs.Formed.{Formed}
-use Rattle.pc_core.specs.Members.{method_among}
-use Rattle.pc_sub.specs.declared.groups.Groups.{Groups}
-use Rattle.pc_sub.specs.Alike.{Alike}
-use Rattle.pc_sub.specs.Groups.{Grouped, HasAlike, InGroup, IsGroup, first_of}
-use Rattle.pc_sub.specs.Tables.{HasForGroups, Kept, TellsGroups}
-use Rattle.pc_sub.proofs.Grouping.{first_within, split}
-use Rattle.pc_sub.proofs.Looked.{HasTo, has_more, has_next}
-use Rattle.pc_sub.proofs.StandsAlike.{alike_back, has_alike}
+use Rattle.pc_base.specs.Lists.{Each, Has}
+use Rattle.pc_base.proofs.Gets.{get_below, get_range, get_set_same, get_set_other, range_get}
+use Rattle.pc_core.specs.{declared.declarations.EntityDef.EntityDef, declared.declarations.Method.Method, CoreData.CoreData, Conforming.TellsConforming, Entities.{Conforms, HasFor}, Further.IsAbstract, EntitySets.{Holds, IsSetOf}, Formed.Formed, Members.method_among}
+use Rattle.pc_sub.specs.{declared.groups.Groups.Groups, Alike.Alike, Groups.{Grouped, HasAlike, InGroup, IsGroup, first_of}, Tables.{HasForGroups, Kept, TellsGroups}}
+use Rattle.pc_sub.proofs.{Grouping.{first_within, split}, Looked.{HasTo, has_more, has_next}, StandsAlike.{alike_back, has_alike}}
 
 -- ---- sets that keep what another has
 

@@ -1,16 +1,11 @@
 -- One iteration of a loop that looks for the first fault: the faults from an element on are its own, followed by those
 -- of the rest.
 use Rattle.std.specs.Prelude.{◌≡◌, ℕ, ◌+◌, ◌<◌, false, List, [], ◌∷◌, length, drop, Some, None, get_or, slice_get, refl}
-use Rattle.std.proofs.Common.{ap, sym, subst, ◌∙◌, arith}
-use Rattle.std.proofs.lemmas.Option.{slice_get-get_or}
-use Rattle.pc_core.specs.declared.declarations.EntityDef.{EntityDef}
-use Rattle.pc_core.specs.declared.declarations.Method.{Method}
-use Rattle.pc_core.specs.declared.declarations.ParamInfo.{ParamInfo}
-use Rattle.pc_core.specs.CoreData.{CoreData}
-use Rattle.pc_sub.specs.declared.faults.DeclFault.{DeclFault}
+use Rattle.std.proofs.{Common.{ap, sym, subst, ◌∙◌, arith}, lemmas.Option.slice_get-get_or}
+use Rattle.pc_core.specs.{declared.declarations.EntityDef.EntityDef, declared.declarations.Method.Method, declared.declarations.ParamInfo.ParamInfo, CoreData.CoreData}
+use Rattle.pc_sub.specs.{declared.faults.DeclFault.DeclFault, Faults.{passed, stopped}}
 use Rattle.pc_sub.specs.DeclarationFaults as spec
-use Rattle.pc_sub.specs.Faults.{passed, stopped}
-use Rattle.pc_lists.proofs.Cuts.{drop_item, item_first}
+use Rattle.pc_base.proofs.Cuts.{drop_item, item_first}
 
 -- The same for a list that was looked at.
 from_seen : {A : Type 0} → (xs ys : List A) (i : ℕ) (x : A) → ys ≡ xs → i < length ys → x ≡ get_or ys i x → drop i xs ≡ x ∷ drop (i + 1) xs

@@ -1,11 +1,9 @@
 -- In a core that fits together, the computed chains are exactly the chains.
-use Rattle.std.proofs.Common.{inl, inr, ap, sym, ◌∙◌}
-use Rattle.std.proofs.lemmas.Option.{same_Some, none-some}
-use Rattle.std.proofs.lemmas.Bool.{eqb-true, eq-eqb, or_cases, or_left, or_right}
-use Rattle.pc_lists.proofs.Bools.{false_true}
+use Rattle.std.proofs.{Common.{inl, inr, ap, sym, ◌∙◌}, lemmas.Option.{same_Some, none-some}, lemmas.Bool.{eqb-true, eq-eqb, or_cases, or_left, or_right}}
+use Rattle.pc_base.proofs.Bools.{false_true}
 use Rattle.std.specs.Prelude.{◌≡◌, ◌↔◌, ℕ, zero, suc, true, List, [], ◌∷◌, Option, Some, None, IsTrue, nat_eq, slice_get, refl}
-use Rattle.pc_core.specs.{declared.declarations.EntityDef.EntityDef, CoreData.CoreData, Entities.Leads, Entities.one, Entities.more, Formed.Formed, Entities.Chain}
-use Rattle.pc_lists.specs.Lists.{Has}
+use Rattle.pc_core.specs.{declared.declarations.EntityDef.EntityDef, CoreData.CoreData, Entities.{Leads, one, more, Chain}, Formed.Formed}
+use Rattle.pc_base.specs.Lists.{Has}
 use Rattle.pc_sub.specs.DeclarationFaults.{is_in, above_in, is_chain}
 
 -- A chain starts at an entity that exists.

@@ -1,11 +1,9 @@
 -- In a core that fits together, the computed order is the order, and computed conformance is conformance.
-use Rattle.std.proofs.Common.{inl, inr, ap, ◌∙◌}
-use Rattle.std.proofs.lemmas.Bool.{and_parts, and_from, or_cases, or_left, or_right}
-use Rattle.pc_lists.proofs.Bools.{false_true}
-use Rattle.std.specs.Prelude.{◌≡◌, ◌↔◌, ℕ, true, ◌&&◌, Option, Some, None, IsTrue, slice_get, refl}
-use Rattle.std.specs.Option.{is_none}
+use Rattle.std.proofs.{Common.{inl, inr, ap, ◌∙◌}, lemmas.Bool.{and_parts, and_from, or_cases, or_left, or_right}}
+use Rattle.pc_base.proofs.Bools.{false_true}
+use Rattle.std.specs.{Prelude.{◌≡◌, ◌↔◌, ℕ, true, ◌&&◌, Option, Some, None, IsTrue, slice_get, refl}, Option.is_none}
 use Rattle.pc_core.specs.{declared.declarations.EntityDef.EntityDef, CoreData.CoreData, Formed.Formed, Entities.Conforms}
-use Rattle.pc_sub.specs.{declared.faults.DeclFault.DeclFault, DeclarationFaults.is_chain, Declarations.IsInterface, Declarations.Sub, Computed.is_interface, Computed.is_sub, Above.is_chain_iff, Faults.conforms, Faults.conformed}
+use Rattle.pc_sub.specs.{declared.faults.DeclFault.DeclFault, DeclarationFaults.is_chain, Declarations.{IsInterface, Sub}, Computed.{is_interface, is_sub}, Above.is_chain_iff, Faults.{conforms, conformed}}
 use Rattle.pc_sub.specs.DeclarationFaults as conform
 
 none_is : (o : Option DeclFault) → is_none o ≡ true → o ≡ None

@@ -1,7 +1,7 @@
 -- When an entity is below another, as it is computed.
 use Rattle.std.specs.Prelude.{ℕ, Bool, false, ◌&&◌, ◌||◌, Option, Some, None, slice_get}
 use Rattle.pc_core.specs.{declared.declarations.EntityDef.EntityDef, CoreData.CoreData}
-use Rattle.pc_sub.specs.{DeclarationFaults.is_chain, DeclarationFaults.conforms, Declarations.is_structural}
+use Rattle.pc_sub.specs.{DeclarationFaults.{is_chain, conforms}, Declarations.is_structural}
 use Rattle.pc_tree.specs.declared.kinds.EntityKind.TheVariants as kind
 
 abbrev pub is_interface : Option EntityDef → Bool

@@ -1,9 +1,8 @@
 -- The declarations of a core that fail, in order.
-use Rattle.std.specs.Prelude.{ℕ, Bool, false, ◌||◌, List, [], ◌∷◌, Option, Some, None, nat_eq, slice_get, ◌+◌, true, ◌&&◌, ◌++◌, if◌then◌else◌}
-use Rattle.pc_lists.specs.Lists.{◌>>=◌}
-use Rattle.std.specs.Option.{is_none}
-use Rattle.pc_core.specs.{declared.declarations.EntityDef.EntityDef, CoreData.CoreData, CoreData.own_methods, CoreData.method_named, declared.declarations.Method.Method, declared.declarations.MethodKind.MethodKind, declared.declarations.ParamInfo.ParamInfo}
-use Rattle.pc_caps.specs.{Computed.is_below, Computed.fits, Tables.unalias, Tables.sendable}
+use Rattle.std.specs.{Prelude.{ℕ, Bool, false, ◌||◌, List, [], ◌∷◌, Option, Some, None, nat_eq, slice_get, ◌+◌, true, ◌&&◌, ◌++◌, if◌then◌else◌}, Option.is_none}
+use Rattle.pc_base.specs.Lists.{◌>>=◌}
+use Rattle.pc_core.specs.{declared.declarations.EntityDef.EntityDef, CoreData.{CoreData, own_methods, method_named}, declared.declarations.Method.Method, declared.declarations.MethodKind.MethodKind, declared.declarations.ParamInfo.ParamInfo}
+use Rattle.pc_caps.specs.{Computed.{is_below, fits}, Tables.{unalias, sendable}}
 use Rattle.pc_sub.specs.{declared.faults.DeclFault.DeclFault, Declarations.takes_sendable}
 use Rattle.pc_core.specs.declared.declarations.MethodKind.TheVariants as method
 use Rattle.pc_sub.specs.declared.faults.DeclFault.TheVariants as fault

@@ -1,9 +1,9 @@
 -- When an entity is below another, and when the declarations of a core fit each other.
 use Rattle.std.specs.Prelude.{◌≡◌, ◌⊎◌, ℕ, Bool, true, false, Some, slice_get}
 use Rattle.pc_tree.specs.{declared.kinds.EntityKind.EntityKind, Kinds.at_kind}
-use Rattle.pc_core.specs.{declared.declarations.EntityDef.EntityDef, CoreData.CoreData, Entities.Chain, Entities.Conforms, declared.declarations.Method.Method, declared.declarations.MethodKind.MethodKind}
-use Rattle.pc_caps.specs.{Tables.sendable, declared.capability.Form.Form, Tables.at_form}
-use Rattle.pc_lists.specs.Lists.{Each}
+use Rattle.pc_core.specs.{declared.declarations.EntityDef.EntityDef, CoreData.CoreData, Entities.{Chain, Conforms}, declared.declarations.Method.Method, declared.declarations.MethodKind.MethodKind}
+use Rattle.pc_caps.specs.{Tables.{sendable, at_form}, declared.capability.Form.Form}
+use Rattle.pc_base.specs.Lists.{Each}
 use Rattle.pc_core.specs.declared.declarations.MethodKind.TheVariants as method
 
 -- For these kinds, an entity is below another that it does not name if it has the methods.

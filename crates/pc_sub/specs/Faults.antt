@@ -1,14 +1,10 @@
 -- There is no fault iff the declarations fit.
-use Rattle.std.proofs.Common.{ap, sym, subst, ◌∙◌, arith}
-use Rattle.std.proofs.lemmas.Bool.{and_parts, and_from}
-use Rattle.std.proofs.lemmas.List.{length-map}
-use Rattle.std.proofs.lemmas.Option.{same_Some, none-some, cond_some}
-use Rattle.pc_lists.proofs.Gets.{get_below, get_append, get_map, range_get}
-use Rattle.pc_lists.proofs.Options.{bind_some}
+use Rattle.std.proofs.{Common.{ap, sym, subst, ◌∙◌, arith}, lemmas.Bool.{and_parts, and_from}, lemmas.List.length-map, lemmas.Option.{same_Some, none-some, cond_some}}
+use Rattle.pc_base.proofs.{Gets.{get_below, get_append, get_map, range_get}, Options.bind_some}
 use Rattle.std.specs.Prelude.{◌≡◌, ◌↔◌, ℕ, zero, suc, ◌+◌, ◌-◌, ◌<◌, ◌≤◌, Bool, true, false, cond, List, [], ◌∷◌, ◌++◌, map, length, Option, Some, None, slice_get, refl}
-use Rattle.pc_caps.specs.{Closure.below_iff, Tables.unalias, Tables.sendable}
-use Rattle.pc_core.specs.{declared.declarations.EntityDef.EntityDef, declared.declarations.Method.Method, declared.declarations.MethodKind.MethodKind, declared.declarations.ParamInfo.ParamInfo, CoreData.CoreData, CoreData.own_methods, Parts.field_name, Parts.method_name, CoreData.method_named, CoreData.IsMethod, Formed.Formed, Members.method_among, Members.method_found, Members.method_missed, Entities.ParamFits, Entities.StandsFor, Entities.HasFor, Entities.Conforms}
-use Rattle.pc_lists.specs.Lists.{Each, ◌>>=◌}
+use Rattle.pc_caps.specs.{Closure.below_iff, Tables.{unalias, sendable}}
+use Rattle.pc_core.specs.{declared.declarations.EntityDef.EntityDef, declared.declarations.Method.Method, declared.declarations.MethodKind.MethodKind, declared.declarations.ParamInfo.ParamInfo, CoreData.{CoreData, own_methods, method_named, IsMethod}, Parts.{field_name, method_name}, Formed.Formed, Members.{method_among, method_found, method_missed}, Entities.{ParamFits, StandsFor, HasFor, Conforms}}
+use Rattle.pc_base.specs.Lists.{Each, ◌>>=◌}
 use Rattle.pc_sub.specs.{declared.faults.DeclFault.DeclFault, Above.is_chain_iff}
 use Rattle.pc_core.specs.declared.declarations.MethodKind.TheVariants as method
 use Rattle.pc_sub.specs.declared.faults.DeclFault.TheVariants as fault

@@ -1,8 +1,8 @@
 -- The first declaration of a core that fails.
 use Rattle.std.specs.Prelude.{◌≡◌, ℕ, ◌+◌, ◌<◌, true, List, Some, slice_get}
 use Rattle.pc_caps.specs.Tables.{sendable}
-use Rattle.pc_core.specs.{declared.declarations.EntityDef.EntityDef, declared.declarations.Method.Method, declared.declarations.ParamInfo.ParamInfo, CoreData.CoreData, CoreData.own_methods, Entities.HasFor, Entities.Conforms}
-use Rattle.pc_lists.specs.Lists.{Each}
+use Rattle.pc_core.specs.{declared.declarations.EntityDef.EntityDef, declared.declarations.Method.Method, declared.declarations.ParamInfo.ParamInfo, CoreData.{CoreData, own_methods}, Entities.{HasFor, Conforms}}
+use Rattle.pc_base.specs.Lists.{Each}
 use Rattle.pc_sub.specs.{Declarations.TakesSendable, declared.faults.DeclFault.DeclFault}
 use Rattle.pc_sub.specs.declared.faults.DeclFault.TheVariants as fault
 

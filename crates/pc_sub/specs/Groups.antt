@@ -1,6 +1,6 @@
 -- The methods of a core in groups of those that are alike.
 use Rattle.std.specs.Prelude.{◌≡◌, ℕ, ◌<◌, ◌≤◌, List, length, Option, Some, slice_get}
-use Rattle.pc_lists.specs.Lists.{◌>>=◌, Each, Has}
+use Rattle.pc_base.specs.Lists.{◌>>=◌, Each, Has}
 use Rattle.pc_core.specs.{declared.declarations.Method.Method, CoreData.CoreData, Entities.StandsFor}
 use Rattle.pc_sub.specs.{declared.groups.Groups.Groups, Alike.Alike}
 

@@ -1,8 +1,8 @@
 -- How a table of what conforms to what is computed, group by group.
 use Rattle.std.specs.Prelude.{◌≡◌, ◌↔◌, ℕ, ◌<◌, List, length, Some, slice_get}
 use Rattle.pc_masks.specs.declared.mask.Mask.{Mask}
-use Rattle.pc_lists.specs.Lists.{Each, Has}
-use Rattle.pc_core.specs.{declared.declarations.Method.Method, CoreData.CoreData, Further.IsAbstract, Entities.HasFor, EntitySets.Holds, EntitySets.IsSetOf}
+use Rattle.pc_base.specs.Lists.{Each, Has}
+use Rattle.pc_core.specs.{declared.declarations.Method.Method, CoreData.CoreData, Further.IsAbstract, Entities.HasFor, EntitySets.{Holds, IsSetOf}}
 use Rattle.pc_sub.specs.{declared.groups.Groups.Groups, Groups.IsGroup}
 
 -- If a place has this property, its set keeps what another set has too.

@@ -1,7 +1,7 @@
 //! Chains of `is`, by a search among what is above an entity.
 ghost use Rattle.std.specs.Prelude.{◌≡◌, ◌↔◌, IsTrue};
 ghost use Rattle.pc_core.specs.Entities.{Leads};
-ghost use Rattle.pc_lists.specs.Lists.{Ascends, Has};
+ghost use Rattle.pc_base.specs.Lists.{Ascends, Has};
 ghost use Rattle.pc_sub.specs.DeclarationFaults as spec;
 
 use pc_core::Core;

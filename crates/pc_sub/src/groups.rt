@@ -1,11 +1,11 @@
 //! The methods of a core in groups of those that are alike.
 ghost use Rattle.std.specs.Prelude.{◌≡◌, ◌↔◌, ◌+◌, ◌++◌, ◌∷◌, ◌<◌, [], IfOk, IfSome, IsTrue, OnOk, Some, get_or, length, slice_get, slice_set};
 ghost use Rattle.std.specs.Option.{option_copied};
-ghost use Rattle.pc_lists.specs.Lists.{Has};
+ghost use Rattle.pc_base.specs.Lists.{Has};
 ghost use Rattle.pc_sub.specs.Groups as spec;
 
 use crate::alike::is_alike;
-use pc_caps::List;
+use pc_base::List;
 use pc_core::{Core, Method};
 use std::alloc::{AllocError, Global};
 

@@ -2,7 +2,7 @@
 ghost use Rattle.std.specs.Prelude.{◌≡◌, ◌⊎◌, ◌↔◌, ℕ, ◌+◌, IfOk, IsTrue, length};
 ghost use Rattle.pc_core.specs.Entities.{HasFor};
 ghost use Rattle.pc_core.specs.EntitySets.{Holds, HasRoom, IsSetOf};
-ghost use Rattle.pc_lists.specs.Lists.{Each, Has};
+ghost use Rattle.pc_base.specs.Lists.{Each, Has};
 ghost use Rattle.pc_sub.specs.Groups as spec;
 
 use crate::groups::{Groups, first_of, list_at};

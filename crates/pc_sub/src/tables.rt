@@ -3,13 +3,13 @@ ghost use Rattle.std.specs.Prelude.{◌≡◌, ◌↔◌, ℕ, ◌+◌, ◌<◌,
 ghost use Rattle.pc_core.specs.Conforming.{TellsConforming};
 ghost use Rattle.pc_core.specs.Further.{IsAbstract};
 ghost use Rattle.pc_core.specs.EntitySets.{Holds};
-ghost use Rattle.pc_lists.specs.Lists.{Each, Has};
+ghost use Rattle.pc_base.specs.Lists.{Each, Has};
 ghost use Rattle.pc_sub.specs.Groups.{Grouped};
 ghost use Rattle.pc_sub.specs.Tables as spec;
 
 use crate::groups::{Groups, first_of, group_methods, list_at};
 use crate::serving::entities_with;
-use pc_caps::List;
+use pc_base::List;
 use pc_core::{Core, EntitySet};
 use std::alloc::{AllocError, Global};
 

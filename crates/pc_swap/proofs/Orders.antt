@@ -1,28 +1,12 @@
 -- Steps that are apart may be swapped.
-use Rattle.std.specs.Prelude.{◌≡◌, ◌≢◌, ◌<◌, ℕ, Bool, true, false, List, [], ◌∷◌, ◌++◌, length, Option, Some, None, refl}
-use Rattle.std.proofs.Common.{inl, inr, ap, sym, ◌∙◌, arith}
-use Rattle.std.proofs.lemmas.Option.{none-some}
-use Rattle.std.specs.FinMap.{get}
-use Rattle.pc_heap.specs.Objects.{ObjectMap, Object}
-use Rattle.pc_heap.specs.declared.value.Address.{Address}
+use Rattle.std.specs.{Prelude.{◌≡◌, ◌≢◌, ◌<◌, ℕ, Bool, true, false, List, [], ◌∷◌, ◌++◌, length, Option, Some, None, refl}, FinMap.get}
+use Rattle.std.proofs.{Common.{inl, inr, ap, sym, ◌∙◌, arith}, lemmas.Option.none-some}
+use Rattle.pc_heap.specs.{Objects.{ObjectMap, Object}, declared.value.Address.Address}
 use Rattle.pc_core.specs.CoreData.{CoreData}
-use Rattle.pc_semantics.specs.declared.actors.Actor.{Actor}
-use Rattle.pc_semantics.specs.declared.mailbox.Message.{Message}
-use Rattle.pc_semantics.specs.declared.outcome.Outcome.{Outcome}
-use Rattle.pc_semantics.specs.declared.outcome.Outcome.TheVariants.{Moved}
-use Rattle.pc_semantics.specs.Configurations.{Configuration, start}
-use Rattle.pc_semantics.specs.Step.{step, followed, run_from, after}
-use Rattle.pc_semantics.specs.Safety.{Race}
+use Rattle.pc_semantics.specs.{declared.actors.Actor.Actor, declared.mailbox.Message.Message, declared.outcome.Outcome.Outcome, declared.outcome.Outcome.TheVariants.Moved, Configurations.{Configuration, start}, Step.{step, followed, run_from, after}, Safety.Race}
 use Rattle.pc_semantics.specs.declared.ahead.Ahead.TheVariants as ahead
-use Rattle.pc_swap.specs.Apart.{Apart, Swapped}
-use Rattle.pc_swap.specs.Laws.{StepsSwap, ListsSwap}
-use Rattle.pc_events.proofs.Changes.{Heaping, Same, Sets, New, Change, applied, plan}
-use Rattle.pc_events.proofs.Maps.{Fit, Different, heaps_pass}
-use Rattle.pc_events.proofs.Plans.{plans, step_is}
-use Rattle.pc_events.proofs.Told.{place_of, HeapTold, SendTold, SpawnTold, PrintTold, TakeTold, Told, told}
-use Rattle.pc_events.proofs.Pass.{Waits, OtherBoxes, Within, NotBoth, NotBothPrint, actors_pass, prints_pass}
-use Rattle.pc_events.proofs.Kept.{plan_kept}
-use Rattle.pc_events.proofs.Reach.{Placed, fits, after_placed, run_goes_on}
+use Rattle.pc_swap.specs.{Apart.{Apart, Swapped}, Laws.{StepsSwap, ListsSwap}}
+use Rattle.pc_events.proofs.{Changes.{Heaping, Same, Sets, New, Change, applied, plan}, Maps.{Fit, Different, heaps_pass}, Plans.{plans, step_is}, Told.{place_of, HeapTold, SendTold, SpawnTold, PrintTold, TakeTold, Told, told}, Pass.{Waits, OtherBoxes, Within, NotBoth, NotBothPrint, actors_pass, prints_pass}, Kept.plan_kept, Reach.{Placed, fits, after_placed, run_goes_on}}
 
 same_configuration : (h g : ObjectMap) (l m : List Actor) (p q : List (List ℕ)) → h ≡ g → l ≡ m → p ≡ q → ◌≡◌ {A = Configuration} (record { objects = h; actors = l; printed = p }) (record { objects = g; actors = m; printed = q })
 same_configuration h g l m p q e f k =

@@ -1,20 +1,12 @@
 -- Whether two steps are apart, determined by what they are.
 use Rattle.std.specs.Prelude.{◌≡◌, ◌≢◌, ℕ, true, false, Result, Ok, Err, IsOk, MatchResult, ◌↔◌, refl}
-use Rattle.std.proofs.Common.{ap, sym, ◌∙◌}
-use Rattle.std.proofs.lemmas.Bool.{eqb-true, eq-eqb, true≢false, false≢true}
+use Rattle.std.proofs.{Common.{ap, sym, ◌∙◌}, lemmas.Bool.{eqb-true, eq-eqb, true≢false, false≢true}}
 use Rattle.pc_core.specs.CoreData.{CoreData}
-use Rattle.pc_semantics.specs.declared.outcome.Outcome.{Outcome}
-use Rattle.pc_semantics.specs.declared.outcome.Outcome.TheVariants.{Moved, Skipped, Lacks, TooLong}
-use Rattle.pc_semantics.specs.Configurations.{Configuration}
-use Rattle.pc_semantics.specs.Step.{step}
-use Rattle.pc_semantics.specs.declared.ahead.Ahead.{Ahead}
+use Rattle.pc_semantics.specs.{declared.outcome.Outcome.Outcome, declared.outcome.Outcome.TheVariants.{Moved, Skipped, Lacks, TooLong}, Configurations.Configuration, Step.step, declared.ahead.Ahead.Ahead, Ahead.ahead_of}
 use Rattle.pc_semantics.specs.declared.ahead.Ahead.TheVariants as ahead
-use Rattle.pc_semantics.specs.Ahead.{ahead_of}
 use Rattle.pc_events.specs.AheadLaws.{Agrees}
 use Rattle.pc_events.proofs.Agrees.{ahead_agrees}
-use Rattle.pc_swap.specs.Apart.{Apart, IsKept}
-use Rattle.pc_swap.specs.Ends.{is_moving, one_receiver, two_spawns}
-use Rattle.pc_swap.specs.declared.kept.Kept.{Kept}
+use Rattle.pc_swap.specs.{Apart.{Apart, IsKept}, Ends.{is_moving, one_receiver, two_spawns}, declared.kept.Kept.Kept}
 use Rattle.pc_swap.specs.declared.kept.Kept.TheVariants as kept
 
 -- ---- whether a step moves

@@ -3,17 +3,11 @@ use Rattle.std.proofs.Common.{◌≡◌, ℕ, ◌+◌, ◌-◌, List, ◌∷◌,
 use Rattle.std.specs.Prelude.{Err, Ok, None, slice_set}
 use Rattle.pc_core.specs.CoreData.{CoreData}
 use Rattle.pc_machine.specs.Machines.{MachineData}
-use Rattle.pc_semantics.specs.Configurations.{Configuration}
-use Rattle.pc_semantics.specs.Step.{after, outcomes}
-use Rattle.pc_semantics.specs.Safety.{Safe}
-use Rattle.pc_semantics.specs.Text.{end_of}
+use Rattle.pc_semantics.specs.{Configurations.Configuration, Step.{after, outcomes}, Safety.Safe, Text.end_of}
 use Rattle.pc_list_steps.specs.Ends.{IsMachineAfter}
-use Rattle.pc_swap.specs.Apart.{Apart, IsKept}
-use Rattle.pc_swap.specs.Ends.{SwapEnds}
-use Rattle.pc_swap.specs.declared.kept.Kept.{Kept}
+use Rattle.pc_swap.specs.{Apart.{Apart, IsKept}, Ends.SwapEnds, declared.kept.Kept.Kept}
 use Rattle.pc_swap.specs.declared.kept.SwapFault.TheVariants as fault
-use Rattle.pc_swap.proofs.Places.{taken, first_turn, second_turn, turns_exchanged}
-use Rattle.pc_swap.proofs.Orders.{steps_swap, whole_lists_swap}
+use Rattle.pc_swap.proofs.{Places.{taken, first_turn, second_turn, turns_exchanged}, Orders.{steps_swap, whole_lists_swap}}
 
 module _ (core : CoreData) (list front rest : List ℕ) (i j place : ℕ) (is : list ≡ front ++ i ∷ j ∷ rest) (at : place ≡ length front + 1) (f : List ℕ) (cut : f ≡ take (place - 1) list) where
   front_is : f ≡ front

@@ -1,7 +1,7 @@
 -- When the steps of two actors are apart and may be swapped, and why others are not.
 use Rattle.std.specs.Prelude.{◌≡◌, ◌≢◌, ℕ}
 use Rattle.pc_core.specs.CoreData.{CoreData}
-use Rattle.pc_semantics.specs.{declared.outcome.Outcome.TheVariants.Moved, Configurations.Configuration, Step.step, declared.ahead.Ahead.TheVariants.Send, declared.ahead.Ahead.TheVariants.Spawn, Ahead.ahead_of}
+use Rattle.pc_semantics.specs.{declared.outcome.Outcome.TheVariants.Moved, Configurations.Configuration, Step.step, declared.ahead.Ahead.TheVariants.{Send, Spawn}, Ahead.ahead_of}
 use Rattle.pc_swap.specs.declared.kept.Kept.{Kept}
 use Rattle.pc_semantics.specs.declared.ahead.Ahead.TheVariants as ahead
 use Rattle.pc_swap.specs.declared.kept.Kept.TheVariants as kept

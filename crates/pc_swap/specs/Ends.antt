@@ -1,8 +1,8 @@
 -- How the exchange of two turns of a list ends, by what the next steps are.
 use Rattle.std.specs.Prelude.{Bool, true, false, nat_eq, ◌≡◌, ℕ, List, Some, None, Result, Ok, Err}
-use Rattle.pc_semantics.specs.{declared.ahead.Ahead.Ahead, Step.after, Step.outcomes, Text.end_of}
+use Rattle.pc_semantics.specs.{declared.ahead.Ahead.Ahead, Step.{after, outcomes}, Text.end_of}
 use Rattle.pc_core.specs.CoreData.{CoreData}
-use Rattle.pc_swap.specs.{Apart.IsKept, declared.kept.SwapFault.SwapFault, declared.kept.SwapFault.TheVariants.Kept, declared.kept.SwapFault.TheVariants.TooLong, declared.kept.SwapFault.TheVariants.Memory, Swapping.Exchanged}
+use Rattle.pc_swap.specs.{Apart.IsKept, declared.kept.SwapFault.SwapFault, declared.kept.SwapFault.TheVariants.{Kept, TooLong, Memory}, Swapping.Exchanged}
 use Rattle.pc_semantics.specs.declared.ahead.Ahead.TheVariants as ahead
 use Rattle.pc_semantics.specs.declared.outcome.Outcome.TheVariants as outcome
 

@@ -2,7 +2,7 @@
 use Rattle.std.specs.Prelude.{◌≡◌, ℕ, List, [], ◌∷◌, ◌++◌}
 use Rattle.pc_core.specs.CoreData.{CoreData}
 use Rattle.pc_semantics.specs.{Configurations.Configuration, Step.after, Safety.Safe}
-use Rattle.pc_swap.specs.{declared.kept.Kept.Kept, Apart.Apart, Apart.IsKept, Apart.Swapped}
+use Rattle.pc_swap.specs.{declared.kept.Kept.Kept, Apart.{Apart, IsKept, Swapped}}
 
 -- In a safe program, the next steps of two actors that are apart, after any list of actors, may be swapped.
 abbrev pub StepsSwap : Type 0

@@ -1,7 +1,7 @@
 -- How the exchange of two turns of a list ends.
 use Rattle.std.specs.Prelude.{◌≡◌, ℕ, List, ◌∷◌, ◌++◌, None}
 use Rattle.pc_core.specs.CoreData.{CoreData}
-use Rattle.pc_semantics.specs.{Step.after, Step.outcomes, Text.end_of}
+use Rattle.pc_semantics.specs.{Step.{after, outcomes}, Text.end_of}
 use Rattle.pc_swap.specs.Apart.{Apart, Swapped}
 
 -- The turns of i and j, after a front that no step ends, are exchanged: they are apart there, all four steps move, and

@@ -9,7 +9,7 @@ ghost use Rattle.pc_swap.specs.Ends.{FrontStops, SwapEnds};
 
 use crate::kept::SwapFault;
 use crate::parts::apart;
-use pc_caps::List;
+use pc_base::List;
 use pc_core::Core;
 use pc_list_steps::{StepsFault, take_steps};
 use pc_machine::{Machine, start};

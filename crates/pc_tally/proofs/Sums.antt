@@ -1,11 +1,6 @@
 -- Sums of prefixes, and how changing one number changes them.
-use Rattle.std.proofs.Common.{◌≡◌, ℕ, zero, suc, ◌+◌, ◌-◌, ◌*◌, ◌/◌, ◌<◌, ◌≤◌, ◌^◌, Bool, true, false, nat_lt, List, [], ◌∷◌, length, take, get_or, set, sum, Some, refl, ap, arith}
+use Rattle.std.proofs.{Common.{◌≡◌, ℕ, zero, suc, ◌+◌, ◌-◌, ◌*◌, ◌/◌, ◌<◌, ◌≤◌, ◌^◌, Bool, true, false, nat_lt, List, [], ◌∷◌, length, take, get_or, set, sum, Some, refl, ap, arith}, Math.Seq.take-set-lt, lemmas.Bool.{ltb-false, ltb-true}, lemmas.List.{get_or-take, length-set, take-set-le, take-take, take_all}, lemmas.List.Sums.{sum_by-set, sum_by-take-le, sum_by_more}, lemmas.Option.get_or_from_slice_get}
 use Rattle.std.specs.Prelude.{slice_get}
-use Rattle.std.proofs.Math.Seq.{take-set-lt}
-use Rattle.std.proofs.lemmas.Bool.{ltb-false, ltb-true}
-use Rattle.std.proofs.lemmas.List.{get_or-take, length-set, take-set-le, take-take, take_all}
-use Rattle.std.proofs.lemmas.List.Sums.{sum_by-set, sum_by-take-le, sum_by_more}
-use Rattle.std.proofs.lemmas.Option.{get_or_from_slice_get}
 use Rattle.pc_tally.specs.Sums.{Summed, IsTally, group}
 
 abbrev same : ℕ → ℕ

@@ -1,19 +1,12 @@
 -- Tasks that stay inside a frame are the same, whichever actor does them.
 use Rattle.std.proofs.Common.{◌≡◌, ℕ, List, [], ◌∷◌, Option, Some, None, refl}
 use Rattle.std.specs.Prelude.{slice_get}
-use Rattle.pc_heap.specs.Objects.{ObjectMap}
-use Rattle.pc_heap.specs.declared.value.Value.{Value}
+use Rattle.pc_heap.specs.{Objects.ObjectMap, declared.value.Value.Value}
 use Rattle.pc_heap.specs.declared.value.Value.TheVariants as value
-use Rattle.pc_core.specs.CoreData.{CoreData}
-use Rattle.pc_core.specs.declared.nodes.Node.{Node}
-use Rattle.pc_core.specs.declared.nodes.NodeKind.{NodeKind}
+use Rattle.pc_core.specs.{CoreData.CoreData, declared.nodes.Node.Node, declared.nodes.NodeKind.NodeKind}
 use Rattle.pc_core.specs.declared.nodes.NodeKind.TheVariants as node
-use Rattle.pc_semantics.specs.declared.frames.Frame.{Frame}
-use Rattle.pc_semantics.specs.declared.frames.Task.{Task}
+use Rattle.pc_semantics.specs.{declared.frames.Frame.Frame, declared.frames.Task.Task, Configurations.{Move, with_stack, pop}, Parts.{with_top, get_from, put_into, at_node}, Calls.{get_task, put_task}}
 use Rattle.pc_semantics.specs.declared.frames.Task.TheVariants as task
-use Rattle.pc_semantics.specs.Configurations.{Move, with_stack, pop}
-use Rattle.pc_semantics.specs.Parts.{with_top, get_from, put_into, at_node}
-use Rattle.pc_semantics.specs.Calls.{get_task, put_task}
 use Rattle.pc_tasks.specs.Inside.{IsInside, amid, seeing, first_move, relieved}
 
 module _ (core : CoreData) (objects : ObjectMap) (i k : ℕ) where

@@ -1,18 +1,10 @@
 -- From a task inside a frame to the step of its actor.
 use Rattle.std.specs.Prelude.{◌≡◌, ℕ, List, [], ◌∷◌, Some, drop, length, slice_get, refl}
-use Rattle.std.proofs.Common.{ap, sym, ◌∙◌}
-use Rattle.std.proofs.lemmas.Option.{same_Some, none-some}
-use Rattle.pc_lists.proofs.Gets.{set_read}
+use Rattle.std.proofs.{Common.{ap, sym, ◌∙◌}, lemmas.Option.{same_Some, none-some}}
+use Rattle.pc_base.proofs.Gets.{set_read}
 use Rattle.pc_heap.specs.Objects.{ObjectMap}
 use Rattle.pc_core.specs.CoreData.{CoreData}
-use Rattle.pc_semantics.specs.declared.actors.Actor.{Actor}
-use Rattle.pc_semantics.specs.declared.frames.Frame.{Frame}
-use Rattle.pc_semantics.specs.declared.frames.Task.{Task}
-use Rattle.pc_semantics.specs.declared.outcome.Outcome.{Outcome}
-use Rattle.pc_semantics.specs.declared.outcome.Outcome.TheVariants.{Lacks, TooLong}
-use Rattle.pc_semantics.specs.Configurations.{Configuration, with_frames, Move, Stuck, Overflows, Goes, Writes, Makes, Spawns, Enters, Sends, Leaves, with_tasks}
-use Rattle.pc_semantics.specs.Parts.{with_objects, run_task, step_of}
-use Rattle.pc_semantics.specs.Step.{task_move, around, made, run_frames, step}
+use Rattle.pc_semantics.specs.{declared.actors.Actor.Actor, declared.frames.Frame.Frame, declared.frames.Task.Task, declared.outcome.Outcome.Outcome, declared.outcome.Outcome.TheVariants.{Lacks, TooLong}, Configurations.{Configuration, with_frames, Move, Stuck, Overflows, Goes, Writes, Makes, Spawns, Enters, Sends, Leaves, with_tasks}, Parts.{with_objects, run_task, step_of}, Step.{task_move, around, made, run_frames, step}}
 use Rattle.pc_tasks.specs.Inside.{IsInside, StaysInside, ended, first_move}
 
 -- Nothing changes if the objects and the frames are unchanged.

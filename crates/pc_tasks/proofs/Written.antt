@@ -1,27 +1,13 @@
 -- A field may be written if its object has it.
-use Rattle.std.proofs.Common.{◌≡◌, ℕ, ◌<◌, List, [], ◌∷◌, Option, Some, None, length, drop, refl, sym, ap, ◌∙◌, arith}
-use Rattle.std.specs.Prelude.{slice_get, slice_set}
-use Rattle.std.specs.FinMap.{get}
-use Rattle.std.proofs.lemmas.Option.{same_Some, none-some}
-use Rattle.pc_lists.proofs.Gets.{get_below, get_within}
-use Rattle.pc_lists.proofs.Lookup.{place_found}
-use Rattle.pc_lists.specs.Lists.{place_of, ◌>>=◌}
-use Rattle.pc_heap.specs.Objects.{Object, ObjectMap, class_at}
-use Rattle.pc_heap.specs.Fields.{field_at}
-use Rattle.pc_heap.specs.Parts.{class_in, field_in}
-use Rattle.pc_heap.specs.declared.value.Address.{Address}
-use Rattle.pc_heap.specs.declared.value.Value.{Value}
-use Rattle.pc_heap.specs.declared.value.Value.TheVariants.{At}
-use Rattle.pc_core.specs.CoreData.{CoreData, field_named}
-use Rattle.pc_core.specs.Parts.{field_name}
-use Rattle.pc_core.specs.declared.declarations.EntityDef.{EntityDef}
-use Rattle.pc_semantics.specs.declared.frames.Frame.{Frame}
-use Rattle.pc_semantics.specs.Configurations.{with_stack, pop}
-use Rattle.pc_semantics.specs.Parts.{with_top, number_of_fields, put_value, put_field, put_of, put_into}
+use Rattle.std.proofs.{Common.{◌≡◌, ℕ, ◌<◌, List, [], ◌∷◌, Option, Some, None, length, drop, refl, sym, ap, ◌∙◌, arith}, lemmas.Option.{same_Some, none-some}}
+use Rattle.std.specs.{Prelude.{slice_get, slice_set}, FinMap.get}
+use Rattle.pc_base.proofs.{Gets.{get_below, get_within}, Lookup.place_found}
+use Rattle.pc_base.specs.Lists.{place_of, ◌>>=◌}
+use Rattle.pc_heap.specs.{Objects.{Object, ObjectMap, class_at}, Fields.field_at, Parts.{class_in, field_in}, declared.value.Address.Address, declared.value.Value.Value, declared.value.Value.TheVariants.At}
+use Rattle.pc_core.specs.{CoreData.{CoreData, field_named}, Parts.field_name, declared.declarations.EntityDef.EntityDef}
+use Rattle.pc_semantics.specs.{declared.frames.Frame.Frame, Configurations.{with_stack, pop}, Parts.{with_top, number_of_fields, put_value, put_field, put_of, put_into}, Ahead.by_move}
 use Rattle.pc_semantics.specs.declared.ahead.Ahead.TheVariants as ahead
-use Rattle.pc_semantics.specs.Ahead.{by_move}
-use Rattle.pc_tasks.specs.Fielded.{HasFields, Fielded}
-use Rattle.pc_tasks.specs.Inside.{seeing}
+use Rattle.pc_tasks.specs.{Fielded.{HasFields, Fielded}, Inside.seeing}
 
 -- ---- a place for the field
 

@@ -1,5 +1,5 @@
 -- The result of an operator, as a move.
-use Rattle.pc_semantics.specs.{declared.frames.Frame.Frame, Configurations.Move, Configurations.Stuck, Configurations.Overflows, Configurations.Goes, Configurations.pushed}
+use Rattle.pc_semantics.specs.{declared.frames.Frame.Frame, Configurations.{Move, Stuck, Overflows, Goes, pushed}}
 use Rattle.pc_tasks.specs.declared.operators.Applied.{Applied}
 use Rattle.pc_semantics.specs.declared.outcome.Lack.TheVariants as lack
 use Rattle.pc_tasks.specs.declared.operators.Applied.TheVariants as applied

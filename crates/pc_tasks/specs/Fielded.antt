@@ -1,7 +1,6 @@
 -- Objects that have exactly the fields of their entities.
-use Rattle.std.specs.Prelude.{◌≡◌, Some, length, slice_get}
-use Rattle.std.specs.FinMap.{get}
-use Rattle.pc_heap.specs.{Objects.Object, Objects.ObjectMap, declared.value.Address.Address}
+use Rattle.std.specs.{Prelude.{◌≡◌, Some, length, slice_get}, FinMap.get}
+use Rattle.pc_heap.specs.{Objects.{Object, ObjectMap}, declared.value.Address.Address}
 use Rattle.pc_core.specs.CoreData.{CoreData}
 use Rattle.pc_semantics.specs.Parts.{number_of_fields}
 

@@ -1,13 +1,13 @@
 //! The values of operators.
 ghost use Rattle.std.specs.Prelude.{◌≡◌, ◌/◌, ◌%◌, ◌++◌, length, nat_lt, IfOk};
-ghost use Rattle.pc_caps.specs.Limits.{text_limit};
+ghost use Rattle.pc_base.specs.Limits.{text_limit};
 ghost use Rattle.pc_semantics.specs.declared.frames.Frame.{Frame};
 ghost use Rattle.pc_semantics.specs.Evaluation as spec;
 ghost use Rattle.pc_semantics.specs.Parts as parts;
 ghost use Rattle.pc_tasks.specs.Applied.{applied_to};
 
 use crate::identity::same_truth;
-use pc_caps::TEXT_LIMIT;
+use pc_base::TEXT_LIMIT;
 use pc_heap::{Text, Value};
 use pc_tree::Op;
 use std::alloc::{AllocError, Global};

@@ -1,13 +1,13 @@
 //! The tokens and the tree of a text.
 ghost use Rattle.std.specs.Prelude.{IfOk};
-ghost use Rattle.pc_lists.specs.Lists.{Ascends};
+ghost use Rattle.pc_base.specs.Lists.{Ascends};
 ghost use Rattle.pc_elab.specs.Cores.{IsSpelledFile};
 ghost use Rattle.pc_expr.specs.Gives.{EndsWithEnd};
 ghost use Rattle.pc_text_order.specs.Laws.{starts};
 ghost use Rattle.pc_tree.specs.View.{file_view};
 
 use crate::reasons::Wrong;
-use pc_caps::List;
+use pc_base::List;
 use pc_lex::{Token, lex};
 use pc_parse::file;
 use pc_text_order::tokens_are_in_order;

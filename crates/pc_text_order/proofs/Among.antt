@@ -1,9 +1,6 @@
 -- Numbers at which some of the tokens of a list start, in order.
-use Rattle.std.proofs.Common.{◌≡◌, ℕ, zero, suc, ◌<◌, List, [], ◌∷◌, ◌++◌, sym, subst, arith, append-nil}
-use Rattle.std.proofs.lemmas.List.{map-append}
-use Rattle.std.proofs.lemmas.Option.{same_Some, none-some}
-use Rattle.pc_caps.specs.declared.span.Span.{Span}
-use Rattle.pc_lists.specs.Lists.{Ascends}
+use Rattle.std.proofs.{Common.{◌≡◌, ℕ, zero, suc, ◌<◌, List, [], ◌∷◌, ◌++◌, sym, subst, arith, append-nil}, lemmas.List.map-append, lemmas.Option.{same_Some, none-some}}
+use Rattle.pc_base.specs.{declared.span.Span.Span, Lists.Ascends}
 use Rattle.pc_token.specs.declared.kinds.Token.{Token}
 use Rattle.pc_body_spec.proofs.Places.{Sub, skip, take, sub_join, nothing_at, Rising, rising}
 use Rattle.pc_text_order.specs.Laws.{starts}

@@ -1,24 +1,16 @@
 -- The places of a body are starts of tokens that spell it.
-use Rattle.std.proofs.Common.{◌≡◌, ℕ, zero, suc, List, [], ◌∷◌, Option, Some, None, refl, sym, ap, ◌∙◌, subst}
+use Rattle.std.proofs.{Common.{◌≡◌, ℕ, zero, suc, List, [], ◌∷◌, Option, Some, None, refl, sym, ap, ◌∙◌, subst}, lemmas.Option.{same_Some, none-some}}
 use Rattle.std.specs.Prelude.{slice_get}
-use Rattle.std.proofs.lemmas.Option.{same_Some, none-some}
-use Rattle.pc_caps.specs.declared.span.Span.{Span}
+use Rattle.pc_base.specs.declared.span.Span.{Span}
 use Rattle.pc_tree.specs.Tree as t
-use Rattle.pc_tree.specs.declared.written_names.TypeRef.{TypeRef}
-use Rattle.pc_tree.specs.declared.kinds.Op.{Op}
-use Rattle.pc_tree.specs.declared.kinds.EntityKind.{EntityKind}
-use Rattle.pc_tree.specs.declared.kinds.MethodWord.{MethodWord}
+use Rattle.pc_tree.specs.{declared.written_names.TypeRef.TypeRef, declared.kinds.Op.Op, declared.kinds.EntityKind.EntityKind, declared.kinds.MethodWord.MethodWord}
 use Rattle.pc_tree.specs.declared.kinds.MethodWord.TheVariants as method
-use Rattle.pc_token.specs.declared.kinds.Token.{Token}
-use Rattle.pc_token.specs.declared.words.Word.{Word}
+use Rattle.pc_token.specs.{declared.kinds.Token.Token, declared.words.Word.Word}
 use Rattle.pc_token.specs.declared.words.Word.TheVariants as w
-use Rattle.pc_grammar.specs.Spells.{over, SpellsType, SpellsTyped, Spells, SpellsTerms, SpellsMoreTerms, SpellsSuffixes, SpellsArgs, SpellsMoreArgs, SpellsArm, SpellsArms, SpellsMoreArms, SpellsOther, SpellsSeq, SpellsItems, SpellsMoreItems, SpellsItem, SpellsValue, SpellsField, SpellsBody, SpellsMethod, SpellsEntity}
-use Rattle.pc_grammar.specs.Parts.{SpellsFields, SpellsMethods}
-use Rattle.pc_body_spec.specs.Bodies.{initial_fields}
-use Rattle.pc_body_spec.specs.Places.{written_places, places, exprs_places, suffixes_places, arm_places, arms_places, other_places, seq_places, items_places, item_places, value_places, initial_places, written_body_places, body_places}
+use Rattle.pc_grammar.specs.{Spells.{over, SpellsType, SpellsTyped, Spells, SpellsTerms, SpellsMoreTerms, SpellsSuffixes, SpellsArgs, SpellsMoreArgs, SpellsArm, SpellsArms, SpellsMoreArms, SpellsOther, SpellsSeq, SpellsItems, SpellsMoreItems, SpellsItem, SpellsValue, SpellsField, SpellsBody, SpellsMethod, SpellsEntity}, Parts.{SpellsFields, SpellsMethods}}
+use Rattle.pc_body_spec.specs.{Bodies.initial_fields, Places.{written_places, places, exprs_places, suffixes_places, arm_places, arms_places, other_places, seq_places, items_places, item_places, value_places, initial_places, written_body_places, body_places}}
 use Rattle.pc_text_order.specs.Laws.{BodiesAscend}
-use Rattle.pc_text_order.proofs.Among.{Among, nothing, put, after, both, past, before, moved, among_ascends}
-use Rattle.pc_text_order.proofs.Files.{file_in}
+use Rattle.pc_text_order.proofs.{Among.{Among, nothing, put, after, both, past, before, moved, among_ascends}, Files.file_in}
 
 pub type_in : (r : TypeRef) (ts : List Token) → SpellsType r ts → Among (r.name.span.start ∷ []) ts
 type_in r ts h = moved h.2 (put h.3.1 nothing)

@@ -1,18 +1,12 @@
 -- The places of an entity's declarations are starts of tokens that spell it.
 use Rattle.std.proofs.Common.{List, [], ◌∷◌, ◌++◌, map, Option, Some, None, inl, inr}
 use Rattle.pc_tree.specs.Tree as t
-use Rattle.pc_tree.specs.declared.written_names.Name.{Name}
-use Rattle.pc_tree.specs.declared.written_names.TypeRef.{TypeRef}
-use Rattle.pc_tree.specs.declared.file.ParamDef.{ParamDef}
-use Rattle.pc_tree.specs.declared.kinds.EntityKind.{EntityKind}
+use Rattle.pc_tree.specs.{declared.written_names.Name.Name, declared.written_names.TypeRef.TypeRef, declared.file.ParamDef.ParamDef, declared.kinds.EntityKind.EntityKind}
 use Rattle.pc_token.specs.declared.kinds.Token.{Token}
-use Rattle.pc_grammar.specs.Spells.{SpellsReturns, SpellsParam, SpellsMoreParams, SpellsParamList, SpellsParams, SpellsField, SpellsMethod, SpellsMoreNames, SpellsNames, SpellsAlone, SpellsProvides, SpellsEntity}
-use Rattle.pc_grammar.specs.Parts.{SpellsFields, SpellsMethods}
+use Rattle.pc_grammar.specs.{Spells.{SpellsReturns, SpellsParam, SpellsMoreParams, SpellsParamList, SpellsParams, SpellsField, SpellsMethod, SpellsMoreNames, SpellsNames, SpellsAlone, SpellsProvides, SpellsEntity}, Parts.{SpellsFields, SpellsMethods}}
 use Rattle.pc_names.specs.Laws.{name_start, result_places, field_places, param_places, method_places, declared_places}
 use Rattle.pc_text_order.specs.Laws.{DeclarationsAscend}
-use Rattle.pc_text_order.proofs.Among.{Among, nothing, put, after, both, past, before, moved, among_ascends}
-use Rattle.pc_text_order.proofs.Files.{file_in}
-use Rattle.pc_text_order.proofs.Bodies.{type_in}
+use Rattle.pc_text_order.proofs.{Among.{Among, nothing, put, after, both, past, before, moved, among_ascends}, Files.file_in, Bodies.type_in}
 
 -- ---- what comes after `is`
 

@@ -1,11 +1,9 @@
 -- The tokens of an entity are a part of the file's.
-use Rattle.std.proofs.Common.{◌≡◌, ℕ, zero, suc, List, [], ◌∷◌, Some, subst}
+use Rattle.std.proofs.{Common.{◌≡◌, ℕ, zero, suc, List, [], ◌∷◌, Some, subst}, lemmas.Option.{same_Some, none-some}}
 use Rattle.std.specs.Prelude.{slice_get}
-use Rattle.std.proofs.lemmas.Option.{same_Some, none-some}
 use Rattle.pc_tree.specs.Tree as t
 use Rattle.pc_token.specs.declared.kinds.Token.{Token}
-use Rattle.pc_grammar.specs.Spells.{SpellsEntity, SpellsEntities, SpellsFile}
-use Rattle.pc_grammar.specs.Parts.{SpellsMoreEntities}
+use Rattle.pc_grammar.specs.{Spells.{SpellsEntity, SpellsEntities, SpellsFile}, Parts.SpellsMoreEntities}
 use Rattle.pc_text_order.proofs.Among.{Among, past, before, moved}
 
 module _ (e : t.Entity) (ns : List ℕ) (part : (us : List Token) → SpellsEntity e us → Among ns us) where

@@ -1,10 +1,8 @@
 -- The tokens of a text ascend, and end with `End`.
-use Rattle.std.proofs.Common.{◌≡◌, ℕ, zero, suc, ◌+◌, ◌<◌, ◌≤◌, Bool, true, false, ◌||◌, List, [], ◌∷◌, length, refl, sym, subst, arith}
-use Rattle.std.proofs.lemmas.Option.{same_Some, none-some}
-use Rattle.pc_lists.specs.Lists.{Each, Ascends}
+use Rattle.std.proofs.{Common.{◌≡◌, ℕ, zero, suc, ◌+◌, ◌<◌, ◌≤◌, Bool, true, false, ◌||◌, List, [], ◌∷◌, length, refl, sym, subst, arith}, lemmas.Option.{same_Some, none-some}}
+use Rattle.pc_base.specs.Lists.{Each, Ascends}
 use Rattle.pc_token.specs.declared.kinds.Token.{Token}
-use Rattle.pc_lex.specs.Pieces.{Piece, gap, token, Pieces, tokens_of}
-use Rattle.pc_lex.specs.Parts.{has_line_end}
+use Rattle.pc_lex.specs.{Pieces.{Piece, gap, token, Pieces, tokens_of}, Parts.has_line_end}
 use Rattle.pc_lex.proofs.OneCut.{piece_some}
 use Rattle.pc_expr.specs.Gives.{EndsWithEnd}
 use Rattle.pc_text_order.specs.Laws.{starts, TokensAscend, TokensEnd}

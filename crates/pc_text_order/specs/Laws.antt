@@ -1,6 +1,6 @@
 -- The order in which tokens, and the names of trees, are in a text.
 use Rattle.std.specs.Prelude.{ℕ, List, map}
-use Rattle.pc_lists.specs.Lists.{Ascends, Each}
+use Rattle.pc_base.specs.Lists.{Ascends, Each}
 use Rattle.pc_token.specs.declared.kinds.Token.{Token}
 use Rattle.pc_lex.specs.Pieces.{Tokens}
 use Rattle.pc_expr.specs.Gives.{EndsWithEnd}

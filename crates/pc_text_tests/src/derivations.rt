@@ -1,6 +1,7 @@
 //! Derivations as texts. The expected values follow the format's description.
 use pc_ann::{Ann, Note, Rule};
-use pc_caps::{Form, List};
+use pc_base::List;
+use pc_caps::Form;
 use pc_deriv::{DerivFault, read, write, write2};
 use pc_masks::Mask;
 use pc_test_inputs::{LINES, LINES2, NODES, NodeRow, SLOTS, Wrong, compared, note, variant_of};

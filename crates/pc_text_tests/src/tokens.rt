@@ -1,5 +1,5 @@
 //! The tokens of small texts. Texts that have none, and their faults, are in `rows/tokens.py`.
-use pc_caps::List;
+use pc_base::List;
 use pc_lex::{LexFault, Token, TokenKind, lex};
 use std::alloc::Global;
 

@@ -1,15 +1,9 @@
 -- In a list with longer signs first, the first sign that fits is the longest.
-use Rattle.std.proofs.Common.{◌≡◌, ℕ, ◌≤◌, Bool, true, false, cond, ◌&&◌, List, [], ◌∷◌, length, Some, None, refl, sym, ap, ◌∙◌, subst, inl, inr, arith, ◌⊎◌}
-use Rattle.std.specs.Prelude.{nat_eq, nat_le}
-use Rattle.std.proofs.lemmas.Bool.{and_parts, true≢false, leb-true}
-use Rattle.std.specs.List.{list_all, starts_with}
-use Rattle.pc_token.specs.declared.signs.Sign.{Sign}
+use Rattle.std.proofs.{Common.{◌≡◌, ℕ, ◌≤◌, Bool, true, false, cond, ◌&&◌, List, [], ◌∷◌, length, Some, None, refl, sym, ap, ◌∙◌, subst, inl, inr, arith, ◌⊎◌}, lemmas.Bool.{and_parts, true≢false, leb-true}, lemmas.Option.same_Some}
+use Rattle.std.specs.{Prelude.{nat_eq, nat_le}, List.{list_all, starts_with}}
+use Rattle.pc_token.specs.{declared.signs.Sign.Sign, declared.signs.TheConstants.SIGNS, Words.sign_text, Finding.{first_sign, sign_at}}
 use Rattle.pc_token.specs.declared.signs.Sign.TheVariants as sign
-use Rattle.pc_token.specs.declared.signs.TheConstants.{SIGNS}
-use Rattle.pc_token.specs.Words.{sign_text}
-use Rattle.pc_token.specs.Finding.{first_sign, sign_at}
-use Rattle.std.proofs.lemmas.Option.{same_Some}
-use Rattle.pc_lists.proofs.Options.{none_some}
+use Rattle.pc_base.proofs.Options.{none_some}
 
 abbrev pub IsIn : Sign → List Sign → Type 0
 IsIn s [] = ⊥

@@ -1,9 +1,7 @@
 -- A sign is looked for among those that begin with the first byte of the text.
 use Rattle.std.proofs.Common.{◌≡◌, ℕ, ◌<◌, List, [], ◌∷◌, refl, sym, subst, arith, slice_index_or}
-use Rattle.pc_token.specs.declared.signs.Sign.{Sign}
+use Rattle.pc_token.specs.{declared.signs.Sign.Sign, declared.signs.TheConstants.SIGNS, Finding.{first_sign, sign_at}}
 use Rattle.pc_token.specs.declared.signs.Sign.TheVariants as sign
-use Rattle.pc_token.specs.declared.signs.TheConstants.{SIGNS}
-use Rattle.pc_token.specs.Finding.{first_sign, sign_at}
 
 by_byte : (byte : ℕ) (signs : List Sign) → 0 < byte → ((bs : List ℕ) → first_sign signs (byte ∷ bs) ≡ sign_at (byte ∷ bs)) → (text : List ℕ) → slice_index_or text 0 0 ≡ byte → first_sign signs text ≡ sign_at text
 by_byte byte signs some same [] e = let none : 0 ≡ byte = e in absurd (omega (arith, some, none))

@@ -1,16 +1,9 @@
 -- Each word is found by its spelling, and by no other.
-use Rattle.std.proofs.Common.{◌≡◌, ℕ, Bool, true, false, cond, List, [], ◌∷◌, Option, Some, None, refl, sym, ap, ◌∙◌}
-use Rattle.std.specs.Str.{bytes_eq}
-use Rattle.std.specs.List.{list_all}
-use Rattle.std.proofs.lemmas.Bool.{and_parts}
-use Rattle.std.proofs.lemmas.Slice.Eq.{bytes_eq-Decides}
-use Rattle.pc_token.specs.declared.words.Word.{Word}
+use Rattle.std.proofs.{Common.{◌≡◌, ℕ, Bool, true, false, cond, List, [], ◌∷◌, Option, Some, None, refl, sym, ap, ◌∙◌}, lemmas.Bool.and_parts, lemmas.Slice.Eq.bytes_eq-Decides, lemmas.Option.same_Some}
+use Rattle.std.specs.{Str.bytes_eq, List.list_all}
+use Rattle.pc_token.specs.{declared.words.Word.Word, declared.words.TheConstants.WORDS, Words.word_text, Finding.{first_word, word_of}}
 use Rattle.pc_token.specs.declared.words.Word.TheVariants as word
-use Rattle.pc_token.specs.declared.words.TheConstants.{WORDS}
-use Rattle.pc_token.specs.Words.{word_text}
-use Rattle.pc_token.specs.Finding.{first_word, word_of}
-use Rattle.pc_lists.proofs.Options.{none_some}
-use Rattle.std.proofs.lemmas.Option.{same_Some}
+use Rattle.pc_base.proofs.Options.{none_some}
 
 -- a word is the one with its spelling
 pub word_own : (w : Word) → word_of (word_text w) ≡ Some w

@@ -1,8 +1,6 @@
 -- A word is looked for among those that begin with the first byte of the text.
 use Rattle.std.proofs.Common.{◌≡◌, ℕ, ◌<◌, List, [], ◌∷◌, refl, sym, subst, arith, slice_index_or}
-use Rattle.pc_token.specs.declared.words.Word.{Word}
-use Rattle.pc_token.specs.declared.words.TheConstants.{WORDS, A_WORDS, B_WORDS, C_WORDS, D_WORDS, E_WORDS, F_WORDS, I_WORDS, L_WORDS, M_WORDS, N_WORDS, O_WORDS, P_WORDS, R_WORDS, S_WORDS, T_WORDS, U_WORDS, V_WORDS, W_WORDS, X_WORDS}
-use Rattle.pc_token.specs.Finding.{first_word, word_of}
+use Rattle.pc_token.specs.{declared.words.Word.Word, declared.words.TheConstants.{WORDS, A_WORDS, B_WORDS, C_WORDS, D_WORDS, E_WORDS, F_WORDS, I_WORDS, L_WORDS, M_WORDS, N_WORDS, O_WORDS, P_WORDS, R_WORDS, S_WORDS, T_WORDS, U_WORDS, V_WORDS, W_WORDS, X_WORDS}, Finding.{first_word, word_of}}
 
 by_letter : (letter : ℕ) (words : List Word) → 0 < letter → ((bs : List ℕ) → first_word words (letter ∷ bs) ≡ word_of (letter ∷ bs)) → (text : List ℕ) → slice_index_or text 0 0 ≡ letter → first_word words text ≡ word_of text
 by_letter letter words some same [] e = let none : 0 ≡ letter = e in absurd (omega (arith, some, none))

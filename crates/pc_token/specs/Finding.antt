@@ -1,7 +1,6 @@
 -- The word and the sign that a text spells.
-use Rattle.std.specs.Prelude.{ℕ, List, [], ◌∷◌, length, Option, Some, None, if◌then◌else◌, nat_eq}
-use Rattle.std.specs.{Str.bytes_eq, List.starts_with}
-use Rattle.pc_token.specs.{declared.words.Word.Word, declared.words.TheConstants.WORDS, declared.signs.Sign.Sign, declared.signs.TheConstants.SIGNS, Words.word_text, Words.sign_text}
+use Rattle.std.specs.{Prelude.{ℕ, List, [], ◌∷◌, length, Option, Some, None, if◌then◌else◌, nat_eq}, Str.bytes_eq, List.starts_with}
+use Rattle.pc_token.specs.{declared.words.Word.Word, declared.words.TheConstants.WORDS, declared.signs.Sign.Sign, declared.signs.TheConstants.SIGNS, Words.{word_text, sign_text}}
 
 -- the first of these words with this spelling
 abbrev pub first_word : List Word → List ℕ → Option Word

@@ -1,7 +1,6 @@
 -- Laws of the tables of words and signs.
-use Rattle.std.specs.Prelude.{◌≡◌, ◌≤◌, ℕ, List, length, Some, None, true, nat_eq}
-use Rattle.std.specs.List.{starts_with}
-use Rattle.pc_token.specs.{declared.words.Word.Word, declared.signs.Sign.Sign, Words.word_text, Words.sign_text, Finding.word_of, Finding.sign_at}
+use Rattle.std.specs.{Prelude.{◌≡◌, ◌≤◌, ℕ, List, length, Some, None, true, nat_eq}, List.starts_with}
+use Rattle.pc_token.specs.{declared.words.Word.Word, declared.signs.Sign.Sign, Words.{word_text, sign_text}, Finding.{word_of, sign_at}}
 
 -- Each word is found by its spelling.
 abbrev pub WordFound : Type 0

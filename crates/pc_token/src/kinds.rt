@@ -1,7 +1,7 @@
 //! Tokens and their kinds.
 use crate::signs::Sign;
 use crate::words::Word;
-use pc_caps::{List, ShortBytes, Span};
+use pc_base::{List, ShortBytes, Span};
 
 /// A kind of token, with the value that it carries. The tokens are those of this project's profile of Pony.
 #[derive(Debug, Drop)]

@@ -1,17 +1,12 @@
 -- What is known of the bytes of a source that was read, and of the known bytes of its file.
 use Rattle.std.proofs.Common.{◌≡◌, ◌≤◌, ℕ, List, Option, Some, None, Ok, inl, inr, subst, arith}
-use Rattle.std.specs.Prelude.{IfSome}
-use Rattle.std.specs.Io.KnownBytes.{Appends}
+use Rattle.std.specs.{Prelude.IfSome, Io.KnownBytes.Appends}
 use Rattle.pc_ann.specs.declared.annotation.Ann.{Ann}
-use Rattle.pc_lists.specs.Lists.{Text}
+use Rattle.pc_base.specs.Lists.{Text}
 use Rattle.pc_io.specs.Sink.{Change}
 use Rattle.pc_valid.specs.Valid.{Valid}
-use Rattle.pc_refusals.specs.Verdict.{Answer, Files, Named, Reading, whole, IsReadingOf, Verdict, IsAccepting}
-use Rattle.pc_refusals.specs.Verdict.Answer.{given as answer_given, file as answer_file, out_failed, err_failed, file_err_failed, no_memory}
-use Rattle.pc_refusals.specs.Source.{SourceStage, source_limit}
-use Rattle.pc_refusals.specs.declared.source.Source.{Source}
-use Rattle.pc_top.specs.Asked.{IsVerdict, FailedIn}
-use Rattle.pc_top.specs.CoreOf.{IsDerivable}
+use Rattle.pc_refusals.specs.{Verdict.{Answer, Files, Named, Reading, whole, IsReadingOf, Verdict, IsAccepting}, Verdict.Answer.{given as answer_given, file as answer_file, out_failed, err_failed, file_err_failed, no_memory}, Source.{SourceStage, source_limit}, declared.source.Source.Source}
+use Rattle.pc_top.specs.{Asked.{IsVerdict, FailedIn}, CoreOf.IsDerivable}
 use Rattle.pc_top.proofs.Deriving.{source_says}
 
 -- what holds of the bytes that were read holds of those that are known

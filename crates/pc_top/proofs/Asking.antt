@@ -1,17 +1,12 @@
 -- What the referee was asked, from how a command ended to the answer.
-use Rattle.std.proofs.Common.{◌≡◌, ℕ, Option, Some, None, Ok, Err, refl, sym, subst, ◌∙◌, inl, inr, arith}
+use Rattle.std.proofs.{Common.{◌≡◌, ℕ, Option, Some, None, Ok, Err, refl, sym, subst, ◌∙◌, inl, inr, arith}, lemmas.Option.{none-some, same_Some}}
 use Rattle.std.specs.Prelude.{Result}
-use Rattle.std.proofs.lemmas.Option.{none-some, same_Some}
-use Rattle.pc_lists.specs.Lists.{Text}
+use Rattle.pc_base.specs.Lists.{Text}
 use Rattle.pc_args.specs.Asked.{Asked, judge}
 use Rattle.pc_io.specs.Sink.{Change}
 use Rattle.pc_referee.specs.Asked.{Pairs}
-use Rattle.pc_refusals.specs.Inner.Derivations.{NotDone}
-use Rattle.pc_refusals.specs.Inner.Finishing.{Finishes, LineEnds, StopFinishes}
-use Rattle.pc_refusals.specs.declared.stop.Stop.{Stop}
-use Rattle.pc_refusals.specs.declared.stop.Stop.TheVariants.{Refused, File, Sink, Memory}
-use Rattle.pc_top.specs.Inner.Asking.{AsksSo, JudgeAsks}
-use Rattle.pc_top.specs.Referee.{Asks, JudgedAll}
+use Rattle.pc_refusals.specs.{Inner.Derivations.NotDone, Inner.Finishing.{Finishes, LineEnds, StopFinishes}, declared.stop.Stop.Stop, declared.stop.Stop.TheVariants.{Refused, File, Sink, Memory}}
+use Rattle.pc_top.specs.{Inner.Asking.{AsksSo, JudgeAsks}, Referee.{Asks, JudgedAll}}
 
 -- a command that the words ask for
 pub asks_end : (known : Text → Option Text) (asked : Asked) (o : Option Asked) (a b : Option Pairs) (r : Result (Unit {0}) Stop) → o ≡ Some asked → AsksSo known (Some asked) a b r → AsksSo known o a b r

@@ -1,24 +1,13 @@
 -- A verdict of a command that looks for a derivation of its source.
 use Rattle.std.proofs.Common.{◌≡◌, ◌≤◌, ◌<◌, ℕ, length, Option, Some, Ok, Err, refl, sym, ap, subst, arith}
 use Rattle.std.specs.Prelude.{IfSome}
-use Rattle.pc_lists.specs.Lists.{Text}
-use Rattle.pc_core.specs.CoreData.{CoreData}
-use Rattle.pc_core.specs.Formed.{Formed}
+use Rattle.pc_base.specs.Lists.{Text}
+use Rattle.pc_core.specs.{CoreData.CoreData, Formed.Formed}
 use Rattle.pc_valid.specs.Valid.{Derivable}
-use Rattle.pc_refusals.specs.Source.{AcceptedStage, Typing, SourceStage, source_limit}
-use Rattle.pc_refusals.specs.Source.Typing.{declared, no_rule, unset}
-use Rattle.pc_refusals.specs.Source.After.{stops, goes}
-use Rattle.pc_refusals.specs.Source.FromFile.{refuses, goes_on}
-use Rattle.pc_refusals.specs.Verdict.{Named, Reading, whole, longer, IsReading, IsReadingOf, Verdict, IsAccepting}
-use Rattle.pc_refusals.specs.declared.source.Source.{Source}
-use Rattle.pc_refusals.specs.declared.typing.Accepted.{Accepted}
-use Rattle.pc_refusals.proofs.OneSource.{SourceLaws, differ, ok_same, one_source}
-use Rattle.pc_refusals.proofs.Statuses.{IsLate, IsOwn, accepted_own, accepted_refuses, late_not_one, late_own, other_not_one, source_other, typing_one}
-use Rattle.pc_top.specs.CoreOf.{CoreOf, IsDerivable, IsUnderivable}
-use Rattle.pc_top.specs.Shapes.{OfAccepted}
-use Rattle.pc_top.proofs.Accepted.{derivable, of_source}
-use Rattle.pc_top.proofs.Deriving.{accepted_source, core_passes, source_formed, source_says}
-use Rattle.pc_top.proofs.Premises.{Refusing}
+use Rattle.pc_refusals.specs.{Source.{AcceptedStage, Typing, SourceStage, source_limit}, Source.Typing.{declared, no_rule, unset}, Source.After.{stops, goes}, Source.FromFile.{refuses, goes_on}, Verdict.{Named, Reading, whole, longer, IsReading, IsReadingOf, Verdict, IsAccepting}, declared.source.Source.Source, declared.typing.Accepted.Accepted}
+use Rattle.pc_refusals.proofs.{OneSource.{SourceLaws, differ, ok_same, one_source}, Statuses.{IsLate, IsOwn, accepted_own, accepted_refuses, late_not_one, late_own, other_not_one, source_other, typing_one}}
+use Rattle.pc_top.specs.{CoreOf.{CoreOf, IsDerivable, IsUnderivable}, Shapes.OfAccepted}
+use Rattle.pc_top.proofs.{Accepted.{derivable, of_source}, Deriving.{accepted_source, core_passes, source_formed, source_says}, Premises.Refusing}
 
 -- It is that of a source that is refused, or the source is accepted and the verdict has a late status.
 pub data Begins (file : Named) (v : Verdict) : Type 0 where

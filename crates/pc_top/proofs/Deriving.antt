@@ -1,10 +1,8 @@
 -- What the stages of a source give: its core, and that the core fits together.
 use Rattle.std.proofs.Common.{◌≡◌, ◌≤◌, ℕ, List, length, Ok, refl, sym, subst, arith}
-use Rattle.pc_core.specs.CoreData.{CoreData}
-use Rattle.pc_core.specs.Formed.{Formed}
+use Rattle.pc_core.specs.{CoreData.CoreData, Formed.Formed}
 use Rattle.pc_ann.specs.declared.annotation.Ann.{Ann}
-use Rattle.pc_deriv.specs.Text.{IsText, deriv_text}
-use Rattle.pc_deriv.specs.Parts.{derivation_slot_limit, derivation_node_limit}
+use Rattle.pc_deriv.specs.{Text.{IsText, deriv_text}, Parts.{derivation_slot_limit, derivation_node_limit}}
 use Rattle.pc_deriv.specs.declared.version.Version.TheVariants as version
 use Rattle.pc_core_relation.proofs.Ones.{standing_cores_are_made}
 use Rattle.pc_elab.specs.Cores.{CoresAreFormed as FilesAreFormed}
@@ -18,20 +16,9 @@ use Rattle.pc_semantics.specs.Safety.{Safe}
 use Rattle.pc_types.specs.Laws.{AcceptedNeverLacks}
 use Rattle.pc_token.specs.declared.kinds.Token.{Token}
 use Rattle.pc_tree.specs.Tree as t
-use Rattle.pc_lists.specs.Lists.{Text}
-use Rattle.pc_refusals.specs.Source.{AcceptedStage, Typing, FileStage, SourceStage, source_limit}
-use Rattle.pc_refusals.specs.Source.Typing.{typed}
-use Rattle.pc_refusals.specs.Source.After.{goes}
-use Rattle.pc_refusals.specs.Verdict.{Reading, whole, longer}
-use Rattle.pc_refusals.specs.Source.Length.{fits}
-use Rattle.pc_refusals.specs.Source.Lexing.{lexed}
-use Rattle.pc_refusals.specs.Source.Parsing.{parsed}
-use Rattle.pc_refusals.specs.Source.Elaborating.{elaborated}
-use Rattle.pc_refusals.specs.Source.TextStage.{has_core}
-use Rattle.pc_refusals.specs.declared.source.Source.{Source}
-use Rattle.pc_refusals.specs.declared.typing.Accepted.{Accepted}
-use Rattle.pc_top.specs.CoreOf.{CoreOf}
-use Rattle.pc_top.specs.CoresFormed.{CoresAreFormed, IsSmall}
+use Rattle.pc_base.specs.Lists.{Text}
+use Rattle.pc_refusals.specs.{Source.{AcceptedStage, Typing, FileStage, SourceStage, source_limit}, Source.Typing.typed, Source.After.goes, Verdict.{Reading, whole, longer}, Source.Length.fits, Source.Lexing.lexed, Source.Parsing.parsed, Source.Elaborating.elaborated, Source.TextStage.has_core, declared.source.Source.Source, declared.typing.Accepted.Accepted}
+use Rattle.pc_top.specs.{CoreOf.CoreOf, CoresFormed.{CoresAreFormed, IsSmall}}
 
 -- a source that all stages let pass
 pub source_says : {name : Text} {r : Reading} {s : Source} → SourceStage name r (Ok s) → (r ≡ whole s.bytes) × CoreOf s.bytes s.core

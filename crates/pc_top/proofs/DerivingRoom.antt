@@ -1,20 +1,14 @@
 -- The room of a command that is given a derivation, and looks for none itself.
 use Rattle.std.proofs.Common.{◌≡◌, Option, Some, subst, false}
-use Rattle.std.specs.Prelude.{IfSome, IsSome}
-use Rattle.std.specs.Io.KnownBytes.{Appends}
+use Rattle.std.specs.{Prelude.{IfSome, IsSome}, Io.KnownBytes.Appends}
 use Rattle.pc_ann.specs.declared.annotation.Ann.{Ann}
-use Rattle.pc_lists.specs.Lists.{Text}
+use Rattle.pc_base.specs.Lists.{Text}
 use Rattle.pc_args.specs.Asked.{Asked}
 use Rattle.pc_io.specs.Sink.{Change}
-use Rattle.pc_refusals.specs.Verdict.{Files, Named, Verdict, IsAccepting}
-use Rattle.pc_refusals.specs.Knowing.{AllKnown, NoneFailed}
+use Rattle.pc_refusals.specs.{Verdict.{Files, Named, Verdict, IsAccepting}, Knowing.{AllKnown, NoneFailed}}
 use Rattle.pc_refusals.proofs.Statuses.{IsOwn, other_not_one, other_own}
-use Rattle.pc_top.specs.Commands.{IsVerdictOf, OnOutOf, infers, source_of}
-use Rattle.pc_top.specs.Words.{files_of}
-use Rattle.pc_top.specs.CoreOf.{IsDerivable}
-use Rattle.pc_top.specs.Shapes.{OfDerivation}
-use Rattle.pc_top.proofs.Room.{NotOne, Room, looks_for_none, of_file, zero_not_one, zero_own}
-use Rattle.pc_top.proofs.Shapes.{Derives, derivation_accepts, derivation_derives, derivation_one, derivation_status}
+use Rattle.pc_top.specs.{Commands.{IsVerdictOf, OnOutOf, infers, source_of}, Words.files_of, CoreOf.IsDerivable, Shapes.OfDerivation}
+use Rattle.pc_top.proofs.{Room.{NotOne, Room, looks_for_none, of_file, zero_not_one, zero_own}, Shapes.{Derives, derivation_accepts, derivation_derives, derivation_one, derivation_status}}
 
 -- The bytes of both files are known, and no reading of them failed.
 abbrev pub BothTell : Named → Named → Type 0

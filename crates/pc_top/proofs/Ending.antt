@@ -1,17 +1,13 @@
 -- From how a command ended to how its words did.
 use Rattle.std.proofs.Common.{◌≡◌, List, Option, Some, None, refl, sym, subst}
 use Rattle.std.specs.Prelude.{Result}
-use Rattle.pc_lists.specs.Lists.{Text}
+use Rattle.pc_base.specs.Lists.{Text}
 use Rattle.pc_args.specs.Asked.{Asked, command_of}
 use Rattle.pc_io.specs.Sink.{Change}
-use Rattle.pc_refusals.specs.Inner.Answering.{AnswersText, CommandStops, EndsCommand, Puts}
-use Rattle.pc_refusals.specs.Inner.Refusals.{IsRefusal}
+use Rattle.pc_refusals.specs.{Inner.Answering.{AnswersText, CommandStops, EndsCommand, Puts}, Inner.Refusals.IsRefusal, Verdict.Files, declared.stop.Stop.Stop}
 use Rattle.pc_refusal_lines.specs.Lines.{usage_line}
-use Rattle.pc_refusals.specs.Verdict.{Files}
-use Rattle.pc_refusals.specs.declared.stop.Stop.{Stop}
 use Rattle.pc_refusals.proofs.Ending.{put_ends, stop_ends, words_stop}
-use Rattle.pc_top.specs.Asked.{FailedIn, IsVerdict}
-use Rattle.pc_top.specs.Commands.{FailedOf, IsVerdictOf}
+use Rattle.pc_top.specs.{Asked.{FailedIn, IsVerdict}, Commands.{FailedOf, IsVerdictOf}}
 
 module _ (files : Files) (out : Change) where
   -- a command that writes, by what it is called with

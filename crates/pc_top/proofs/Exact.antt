@@ -1,20 +1,12 @@
 -- What the statuses 0 and 1 mean for a source, exactly.
 use Rattle.std.proofs.Common.{◌≡◌, Option, Some, inl, refl, ap, subst}
 use Rattle.std.specs.Prelude.{◌↔◌, IfSome, IsTrue}
-use Rattle.pc_lists.specs.Lists.{Text}
+use Rattle.pc_base.specs.Lists.{Text}
 use Rattle.pc_args.specs.Asked.{Asked, check}
 use Rattle.pc_refusals.specs.Verdict.{Files, named, Verdict}
 use Rattle.pc_refusals.proofs.OneSource.{SourceLaws}
-use Rattle.pc_top.specs.Asked.{OfFile}
-use Rattle.pc_top.specs.Commands.{IsVerdictOf, infers, source_of}
-use Rattle.pc_top.specs.Words.{HasNumber}
-use Rattle.pc_top.specs.Commands.Check.{Derived}
-use Rattle.pc_top.specs.CoreOf.{IsDerivable, IsUnderivable}
-use Rattle.pc_top.specs.Exact.{StatusesAreExact}
-use Rattle.pc_top.proofs.Begins.{went_on}
-use Rattle.pc_top.proofs.Premises.{Refusing}
-use Rattle.pc_top.proofs.Rooms.{room_of}
-use Rattle.pc_top.proofs.Rooms.Make.{make_exact, make_underived}
+use Rattle.pc_top.specs.{Asked.OfFile, Commands.{IsVerdictOf, infers, source_of}, Words.HasNumber, Commands.Check.Derived, CoreOf.{IsDerivable, IsUnderivable}, Exact.StatusesAreExact}
+use Rattle.pc_top.proofs.{Begins.went_on, Premises.Refusing, Rooms.room_of, Rooms.Make.{make_exact, make_underived}}
 
 module _ (sources : SourceLaws) (laws : Refusing) where
   -- what holds of the command's file, holds of the bytes that it tells

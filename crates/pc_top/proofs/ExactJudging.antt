@@ -4,27 +4,13 @@ use Rattle.std.specs.Prelude.{IfSome, IsSome}
 use Rattle.pc_ann.specs.declared.annotation.Ann.{Ann}
 use Rattle.pc_deriv.specs.Text.{derivation_limit, deriv_text}
 use Rattle.pc_deriv.specs.declared.version.Version.TheVariants as version
-use Rattle.pc_lists.specs.Lists.{Text}
+use Rattle.pc_base.specs.Lists.{Text}
 use Rattle.pc_args.specs.Asked.{Asked, judge, upgrade, command_of}
-use Rattle.pc_refusals.specs.Source.After.{goes}
-use Rattle.pc_refusals.specs.Derivation.{in_parts}
-use Rattle.pc_refusals.specs.Derivation.Deriving.{reads}
-use Rattle.pc_refusals.specs.Derivation.Judging.{holds}
-use Rattle.pc_refusals.specs.Source.FromFile.{goes_on}
-use Rattle.pc_refusals.specs.Verdict.{Files, Named, IsReadingOf, named, whole, Verdict, done}
-use Rattle.pc_refusals.specs.Knowing.{AllKnown, NoneFailed}
-use Rattle.pc_refusals.specs.Source.{source_limit}
-use Rattle.pc_refusals.specs.Source.Length.{fits}
+use Rattle.pc_refusals.specs.{Source.After.goes, Derivation.in_parts, Derivation.Deriving.reads, Derivation.Judging.holds, Source.FromFile.goes_on, Verdict.{Files, Named, IsReadingOf, named, whole, Verdict, done}, Knowing.{AllKnown, NoneFailed}, Source.source_limit, Source.Length.fits}
 use Rattle.pc_refusals.proofs.Lengths.{text_within}
-use Rattle.pc_top.specs.Commands.{IsVerdictOf}
-use Rattle.pc_top.specs.Words.{files_of}
-use Rattle.pc_core_commands.specs.Judge.{accepted_text}
-use Rattle.pc_top.specs.Exact.{IsDerivationOf, JudgedAreExact, ReadsBoth}
-use Rattle.pc_top.specs.One.{TellsOf, UnfailedOf, VerdictIsOne}
-use Rattle.pc_top.specs.Shapes.{OfDerivation}
-use Rattle.pc_top.proofs.Accepted.{of_source, of_told}
-use Rattle.pc_top.proofs.Deriving.{core_passes, source_says}
-use Rattle.pc_top.proofs.Shapes.{derivation_derives}
+use Rattle.pc_top.specs.{Commands.IsVerdictOf, Words.files_of, Exact.{IsDerivationOf, JudgedAreExact, ReadsBoth}, One.{TellsOf, UnfailedOf, VerdictIsOne}, Shapes.OfDerivation}
+use Rattle.pc_commands.specs.Judge.{accepted_text}
+use Rattle.pc_top.proofs.{Accepted.{of_source, of_told}, Deriving.{core_passes, source_says}, Shapes.derivation_derives}
 
 -- Of two files that tell these bytes.
 module _ (shown : Ann → Text) (file derivation : Named) (bytes text : Text) (tells : file.known ≡ Some bytes) (tells_text : derivation.known ≡ Some text) where

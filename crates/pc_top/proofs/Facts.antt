@@ -5,25 +5,13 @@ use Rattle.pc_core.specs.CoreData.{CoreData}
 use Rattle.pc_core_relation.specs.MemberFaults.{IsMemberFault}
 use Rattle.pc_core_relation.proofs.MemberFaults.{is_first}
 use Rattle.pc_elab.specs.Cores.{IsFirstFault, IsSpelledFile}
-use Rattle.pc_names.specs.Faults.{IsNotMemory, IsNameFault}
-use Rattle.pc_names.specs.declared.fault.NameFault.{NameFault}
+use Rattle.pc_names.specs.{Faults.{IsNotMemory, IsNameFault}, declared.fault.NameFault.NameFault}
 use Rattle.pc_names.specs.declared.fault.NameFault.TheVariants as names
 use Rattle.pc_text_order.specs.Laws.{TokensAscend}
 use Rattle.pc_tree.specs.Tree as t
-use Rattle.pc_lists.specs.Lists.{Text}
-use Rattle.pc_refusals.specs.Source.After.{stops, goes}
-use Rattle.pc_refusals.specs.Inner.Refusals.{IsNameStop}
-use Rattle.pc_refusals.specs.Inner.Stages.{StageStops, StageEnds, PartStops, PartGives}
+use Rattle.pc_base.specs.Lists.{Text}
+use Rattle.pc_refusals.specs.{Source.After.{stops, goes}, Inner.Refusals.IsNameStop, Inner.Stages.{StageStops, StageEnds, PartStops, PartGives}, Verdict.{Named, longer, whole, IsReadingOf, text_as, Verdict, refused}, Source.{Elaborating, CoreStage, SourceStage, SyntaxStage, source_limit}, Source.Length.{fits, is_longer}, Source.Lexing.lexed, Source.Parsing.parsed, Source.Elaborating.{misnamed, misused}, Source.TextStage.{has_core, has_none}, declared.stop.Stop.Stop, declared.stop.Stop.TheVariants.{Refused, File, Sink, Memory}}
 use Rattle.pc_refusal_lines.specs.Lines.{longer_line}
-use Rattle.pc_refusals.specs.Verdict.{Named, longer, whole, IsReadingOf, text_as, Verdict, refused}
-use Rattle.pc_refusals.specs.Source.{Elaborating, CoreStage, SourceStage, SyntaxStage, source_limit}
-use Rattle.pc_refusals.specs.Source.Length.{fits, is_longer}
-use Rattle.pc_refusals.specs.Source.Lexing.{lexed}
-use Rattle.pc_refusals.specs.Source.Parsing.{parsed}
-use Rattle.pc_refusals.specs.Source.Elaborating.{misnamed, misused}
-use Rattle.pc_refusals.specs.Source.TextStage.{has_core, has_none}
-use Rattle.pc_refusals.specs.declared.stop.Stop.{Stop}
-use Rattle.pc_refusals.specs.declared.stop.Stop.TheVariants.{Refused, File, Sink, Memory}
 use Rattle.pc_refusals.proofs.Stops.{name_stops, stops_as}
 
 -- A source that has no tree has no core.

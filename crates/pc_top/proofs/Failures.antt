@@ -1,10 +1,9 @@
 -- What each status of a failure means.
 use Rattle.std.proofs.Common.{◌≡◌, ◌≤◌, ℕ, List, inl, inr, arith}
 use Rattle.std.specs.Prelude.{◌⊎◌}
-use Rattle.pc_lists.specs.Lists.{Text}
+use Rattle.pc_base.specs.Lists.{Text}
 use Rattle.pc_io.specs.Sink.{Change}
-use Rattle.pc_refusals.specs.Verdict.Answer.{given as answer_given, file as answer_file, out_failed, err_failed, file_err_failed, no_memory}
-use Rattle.pc_refusals.specs.Verdict.{Files}
+use Rattle.pc_refusals.specs.{Verdict.Answer.{given as answer_given, file as answer_file, out_failed, err_failed, file_err_failed, no_memory}, Verdict.Files}
 use Rattle.pc_refusals.proofs.Statuses.{IsOwn}
 use Rattle.pc_top.specs.Failures.{AnswersVerdict, ErrFailed, FailuresAreTold, OutFailed, Unread, WantsMemory}
 use Rattle.pc_top.proofs.Verdicts.{verdicts_own}

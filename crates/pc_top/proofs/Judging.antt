@@ -2,20 +2,11 @@
 use Rattle.std.proofs.Common.{◌≡◌, ◌≤◌, ℕ, ◌+◌, Option, Ok, Err, inl, inr, refl, sym, subst}
 use Rattle.pc_ann.specs.declared.annotation.Ann.{Ann}
 use Rattle.pc_deriv.specs.Text.{derivation_limit}
-use Rattle.pc_lists.specs.Lists.{Text}
-use Rattle.pc_refusals.specs.Derivation.{DerivationStage, Judging, in_parts}
-use Rattle.pc_refusals.specs.Inner.Answering.{AnswerStops}
-use Rattle.pc_refusals.specs.Inner.Derivations.{DerivationJudged}
-use Rattle.pc_refusals.specs.Inner.Stages.{PartGives}
-use Rattle.pc_refusals.specs.Verdict.{Files, Named, file_at, files_change, named, EndsAs, Verdict, done}
-use Rattle.pc_refusals.specs.Source.{SourceStage, source_limit}
-use Rattle.pc_refusals.specs.declared.source.Source.{Source}
-use Rattle.pc_refusals.specs.declared.stop.Stop.{Stop}
-use Rattle.pc_refusals.proofs.Ending.{both_answer, both_stop, last_stops}
-use Rattle.pc_refusals.proofs.TwoFiles.{second_gives, second_stops}
-use Rattle.pc_core_commands.specs.Judge.{accepted_text}
-use Rattle.pc_top.specs.Commands.Judge.{IsJudge}
-use Rattle.pc_top.specs.Shapes.{UnreadDerivation}
+use Rattle.pc_base.specs.Lists.{Text}
+use Rattle.pc_refusals.specs.{Derivation.{DerivationStage, Judging, in_parts}, Inner.Answering.AnswerStops, Inner.Derivations.DerivationJudged, Inner.Stages.PartGives, Verdict.{Files, Named, file_at, files_change, named, EndsAs, Verdict, done}, Source.{SourceStage, source_limit}, declared.source.Source.Source, declared.stop.Stop.Stop}
+use Rattle.pc_refusals.proofs.{Ending.{both_answer, both_stop, last_stops}, TwoFiles.{second_gives, second_stops}}
+use Rattle.pc_commands.specs.Judge.{accepted_text}
+use Rattle.pc_top.specs.{Commands.Judge.IsJudge, Shapes.UnreadDerivation}
 use Rattle.pc_top.proofs.Deriving.{never_longer}
 
 module _ (s d : Text) (known later : Text → Option Text) (before mid now : Text → ℕ) (taken last_taken : ℕ) (x : Source) (given : PartGives source_limit (SourceStage s) (file_at known before mid taken s) x)

@@ -1,31 +1,14 @@
 -- A command with a number among its words, which looks for a derivation of its source.
-use Rattle.std.proofs.Common.{◌≡◌, ℕ, Option, Some, None, Ok, Err, inl, inr, refl, sym, ap, ◌∙◌, subst}
-use Rattle.std.specs.Prelude.{IsSome, IsTrue, Result}
-use Rattle.std.specs.Io.KnownBytes.{Appends}
-use Rattle.std.proofs.lemmas.Option.{none-some, same_Some}
-use Rattle.pc_lists.specs.Lists.{Text}
-use Rattle.pc_args.specs.Asked.{Asked}
-use Rattle.pc_args.specs.Numbers.{Reads}
+use Rattle.std.proofs.{Common.{◌≡◌, ℕ, Option, Some, None, Ok, Err, inl, inr, refl, sym, ap, ◌∙◌, subst}, lemmas.Option.{none-some, same_Some}}
+use Rattle.std.specs.{Prelude.{IsSome, IsTrue, Result}, Io.KnownBytes.Appends}
+use Rattle.pc_base.specs.Lists.{Text}
+use Rattle.pc_args.specs.{Asked.Asked, Numbers.Reads}
 use Rattle.pc_io.specs.Sink.{Change}
-use Rattle.pc_refusals.specs.Source.{AcceptedStage, source_limit}
-use Rattle.pc_refusals.specs.Inner.Answering.{AnswerStops, AnswersText, EndsCommand}
+use Rattle.pc_refusals.specs.{Source.{AcceptedStage, source_limit}, Inner.Answering.{AnswerStops, AnswersText, EndsCommand}, Verdict.{Files, Named, named, Verdict, IsAccepting}, Knowing.{AllKnown, NoneFailed}, declared.stop.Stop.Stop, declared.typing.Accepted.Accepted}
 use Rattle.pc_refusal_lines.specs.Lines.{usage_line}
-use Rattle.pc_refusals.specs.Verdict.{Files, Named, named, Verdict, IsAccepting}
-use Rattle.pc_refusals.specs.Knowing.{AllKnown, NoneFailed}
-use Rattle.pc_refusals.specs.declared.stop.Stop.{Stop}
-use Rattle.pc_refusals.specs.declared.typing.Accepted.{Accepted}
-use Rattle.pc_refusals.proofs.Ending.{answers_by, ends_by, part_answers, part_ends, part_stops, words_stop}
-use Rattle.pc_refusals.proofs.Statuses.{IsLate}
-use Rattle.pc_top.specs.Commands.{IsVerdictOf, OnOutOf, infers, source_of}
-use Rattle.pc_top.specs.Words.{HasNumber, files_of}
-use Rattle.pc_top.specs.Inner.Numbering.{NumberStops, NumberedEnds}
-use Rattle.pc_top.specs.Shapes.{ByNumber, OfAccepted, UnreadNumbered}
-use Rattle.pc_top.specs.Shapes.ByNumber.{no_number, spelled}
-use Rattle.pc_top.specs.declared.numbered.Numbered.{Numbered}
-use Rattle.pc_top.proofs.Begins.{begins}
-use Rattle.pc_top.proofs.Premises.{Laws}
-use Rattle.pc_top.proofs.Room.{Goes, Room, inferring, two_refuses}
-use Rattle.pc_top.proofs.Shapes.{accepted_one}
+use Rattle.pc_refusals.proofs.{Ending.{answers_by, ends_by, part_answers, part_ends, part_stops, words_stop}, Statuses.IsLate}
+use Rattle.pc_top.specs.{Commands.{IsVerdictOf, OnOutOf, infers, source_of}, Words.{HasNumber, files_of}, Inner.Numbering.{NumberStops, NumberedEnds}, Shapes.{ByNumber, OfAccepted, UnreadNumbered}, Shapes.ByNumber.{no_number, spelled}, declared.numbered.Numbered.Numbered}
+use Rattle.pc_top.proofs.{Begins.begins, Premises.Laws, Room.{Goes, Room, inferring, two_refuses}, Shapes.accepted_one}
 
 -- ---- the verdict of a number
 

@@ -1,37 +1,18 @@
 -- Any two ends of the stages after a source are equal.
-use Rattle.std.proofs.Common.{◌≡◌, ℕ, List, Ok, Err, refl, sym, ◌∙◌, ap}
+use Rattle.std.proofs.{Common.{◌≡◌, ℕ, List, Ok, Err, refl, sym, ◌∙◌, ap}, lemmas.Option.same_Some}
 use Rattle.std.specs.Prelude.{slice_get, codes}
-use Rattle.std.proofs.lemmas.Option.{same_Some}
 use Rattle.pc_ann.specs.declared.annotation.Ann.{Ann}
-use Rattle.pc_core.specs.declared.declarations.Method.{Method}
-use Rattle.pc_core.specs.declared.nodes.Node.{Node}
-use Rattle.pc_core.specs.CoreData.{CoreData}
-use Rattle.pc_core.specs.Formed.{Formed}
-use Rattle.pc_deriv.specs.Text.{derivation_limit}
-use Rattle.pc_deriv.specs.declared.fault.DerivFault.{DerivFault}
+use Rattle.pc_core.specs.{declared.declarations.Method.Method, declared.nodes.Node.Node, CoreData.CoreData, Formed.Formed}
+use Rattle.pc_deriv.specs.{Text.derivation_limit, declared.fault.DerivFault.DerivFault}
 use Rattle.pc_judge.specs.declared.faults.JudgeFault.{JudgeFault}
 use Rattle.pc_valid.specs.NoRule.{NoRule, Unset}
-use Rattle.pc_sched.specs.Schedules.{schedule_limit}
-use Rattle.pc_sched.specs.declared.fault.SchedFault.TheVariants.{BadWord, TooMany}
-use Rattle.pc_sched.specs.declared.turns.Turn.{Turn}
-use Rattle.pc_sub.specs.Declarations.{DeclOk}
-use Rattle.pc_sub.specs.FirstFault.{IsFirstDeclarationFault}
-use Rattle.pc_sub.specs.declared.faults.DeclFault.{DeclFault}
-use Rattle.pc_lists.specs.Lists.{Text}
-use Rattle.pc_refusals.specs.Source.{AcceptedStage, Typing, ScheduleStage, Scheduling, Length, SourceStage}
-use Rattle.pc_refusals.specs.Ends.{HasOneEnd}
-use Rattle.pc_refusals.specs.Source.Typing.{typed, declared, no_rule, unset}
-use Rattle.pc_refusals.specs.FaultLines.{decl_offset, decl_text}
-use Rattle.pc_refusals.specs.Derivation.{Deriving, DerivationStage, Judging, judge_line, text_status, text_line}
-use Rattle.pc_refusals.specs.Derivation.Deriving.{reads, garbled}
-use Rattle.pc_refusals.specs.Derivation.Judging.{holds, fails}
-use Rattle.pc_refusals.specs.Verdict.{Reading, refused}
+use Rattle.pc_sched.specs.{Schedules.schedule_limit, declared.fault.SchedFault.TheVariants.{BadWord, TooMany}, declared.turns.Turn.Turn}
+use Rattle.pc_sub.specs.{Declarations.DeclOk, FirstFault.IsFirstDeclarationFault, declared.faults.DeclFault.DeclFault}
+use Rattle.pc_base.specs.Lists.{Text}
+use Rattle.pc_refusals.specs.{Source.{AcceptedStage, Typing, ScheduleStage, Scheduling, Length, SourceStage}, Ends.HasOneEnd, Source.Typing.{typed, declared, no_rule, unset}, FaultLines.{decl_offset, decl_text}, Derivation.{Deriving, DerivationStage, Judging, judge_line, text_status, text_line}, Derivation.Deriving.{reads, garbled}, Derivation.Judging.{holds, fails}, Verdict.{Reading, refused}, Source.Scheduling.{scheduled, bad_word, too_many}, declared.source.Source.Source}
 use Rattle.pc_refusal_lines.specs.Lines.{offset_line}
-use Rattle.pc_refusals.specs.Source.Scheduling.{scheduled, bad_word, too_many}
-use Rattle.pc_refusals.specs.declared.source.Source.{Source}
 use Rattle.pc_refusals.proofs.OneSource.{after_is_one, one_length, one_source}
-use Rattle.pc_top.proofs.Deriving.{source_formed}
-use Rattle.pc_top.proofs.Premises.{Laws}
+use Rattle.pc_top.proofs.{Deriving.source_formed, Premises.Laws}
 
 -- the place of a schedule's fault
 bad_same : (p q : ℕ) → BadWord p ≡ BadWord q → p ≡ q

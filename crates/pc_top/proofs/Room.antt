@@ -1,22 +1,13 @@
 -- What the top needs to know of a command: one record for each, made in the file of its name.
-use Rattle.std.proofs.Common.{◌≡◌, ◌⊎◌, ℕ, Option, Some, inl, inr, sym, ap, ◌∙◌, subst, arith, true, false}
-use Rattle.std.specs.Prelude.{IfSome, IsTrue}
-use Rattle.std.specs.Io.KnownBytes.{Appends}
-use Rattle.std.proofs.lemmas.Option.{none-some, same_Some}
-use Rattle.pc_lists.specs.Lists.{Text}
+use Rattle.std.proofs.{Common.{◌≡◌, ◌⊎◌, ℕ, Option, Some, inl, inr, sym, ap, ◌∙◌, subst, arith, true, false}, lemmas.Option.{none-some, same_Some}}
+use Rattle.std.specs.{Prelude.{IfSome, IsTrue}, Io.KnownBytes.Appends}
+use Rattle.pc_base.specs.Lists.{Text}
 use Rattle.pc_args.specs.Asked.{Asked}
 use Rattle.pc_io.specs.Sink.{Change}
-use Rattle.pc_refusals.specs.Verdict.{Files, named, Verdict, IsAccepting}
-use Rattle.pc_refusals.specs.Knowing.{AllKnown, NoneFailed}
-use Rattle.pc_refusals.proofs.OneSource.{SourceLaws}
-use Rattle.pc_refusals.proofs.Statuses.{IsOwn}
-use Rattle.pc_top.specs.Asked.{HasNoDerivationOf, OfFile, OfSource}
-use Rattle.pc_top.specs.Commands.{IsVerdictOf, OnOutOf, infers, source_of}
-use Rattle.pc_top.specs.Words.{HasNumber, files_of}
-use Rattle.pc_top.specs.Laws.{TablesTell}
-use Rattle.pc_top.specs.CoreOf.{IsDerivable, IsUnderivable}
-use Rattle.pc_top.proofs.Begins.{Begins, begins_accepts, begins_exact, begins_own, begins_refuses}
-use Rattle.pc_top.proofs.Premises.{Laws, Refusing}
+use Rattle.pc_refusals.specs.{Verdict.{Files, named, Verdict, IsAccepting}, Knowing.{AllKnown, NoneFailed}}
+use Rattle.pc_refusals.proofs.{OneSource.SourceLaws, Statuses.IsOwn}
+use Rattle.pc_top.specs.{Asked.{HasNoDerivationOf, OfFile, OfSource}, Commands.{IsVerdictOf, OnOutOf, infers, source_of}, Words.{HasNumber, files_of}, Laws.TablesTell, CoreOf.{IsDerivable, IsUnderivable}}
+use Rattle.pc_top.proofs.{Begins.{Begins, begins_accepts, begins_exact, begins_own, begins_refuses}, Premises.{Laws, Refusing}}
 
 pub record Room (files : Files) (asked : Asked) : Type 0 where
   -- if the bytes of its files are known and no reading failed, it has one verdict

@@ -1,22 +1,7 @@
 -- The rooms, one for each command.
 use Rattle.pc_args.specs.Asked.{Asked, check, events, explain, judge, make, outcomes, places, play, run, schedule_of, sends, show, swap, trace, upgrade}
 use Rattle.pc_refusals.specs.Verdict.{Files}
-use Rattle.pc_top.proofs.Room.{Room}
-use Rattle.pc_top.proofs.Rooms.Check.{check_room}
-use Rattle.pc_top.proofs.Rooms.Events.{events_room}
-use Rattle.pc_top.proofs.Rooms.Explain.{explain_room}
-use Rattle.pc_top.proofs.Rooms.Judge.{judge_room}
-use Rattle.pc_top.proofs.Rooms.Make.{make_room}
-use Rattle.pc_top.proofs.Rooms.Outcomes.{outcomes_room}
-use Rattle.pc_top.proofs.Rooms.Places.{places_room}
-use Rattle.pc_top.proofs.Rooms.Play.{play_room}
-use Rattle.pc_top.proofs.Rooms.Run.{run_room}
-use Rattle.pc_top.proofs.Rooms.Schedule.{schedule_room}
-use Rattle.pc_top.proofs.Rooms.Sends.{sends_room}
-use Rattle.pc_top.proofs.Rooms.Show.{show_room}
-use Rattle.pc_top.proofs.Rooms.Swap.{swap_room}
-use Rattle.pc_top.proofs.Rooms.Trace.{trace_room}
-use Rattle.pc_top.proofs.Rooms.Upgrade.{upgrade_room}
+use Rattle.pc_top.proofs.{Room.Room, Rooms.Check.check_room, Rooms.Events.events_room, Rooms.Explain.explain_room, Rooms.Judge.judge_room, Rooms.Make.make_room, Rooms.Outcomes.outcomes_room, Rooms.Places.places_room, Rooms.Play.play_room, Rooms.Run.run_room, Rooms.Schedule.schedule_room, Rooms.Sends.sends_room, Rooms.Show.show_room, Rooms.Swap.swap_room, Rooms.Trace.trace_room, Rooms.Upgrade.upgrade_room}
 pub mod Check
 pub mod Events
 pub mod Explain

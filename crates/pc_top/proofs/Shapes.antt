@@ -3,29 +3,15 @@ use Rattle.std.proofs.Common.{◌≡◌, ℕ, List, Ok, Err, inl, inr, subst, ar
 use Rattle.std.specs.Prelude.{◌⊎◌, IfSome, IsSome}
 use Rattle.pc_ann.specs.declared.annotation.Ann.{Ann}
 use Rattle.pc_deriv.specs.Text.{derivation_limit, IsText}
-use Rattle.pc_lists.specs.Lists.{Text}
+use Rattle.pc_base.specs.Lists.{Text}
 use Rattle.pc_core.specs.CoreData.{CoreData}
 use Rattle.pc_valid.specs.Valid.{Valid}
 use Rattle.pc_run.specs.Spreading.{spread}
-use Rattle.pc_sched.specs.Schedules.{schedule_limit, TurnList}
-use Rattle.pc_sched.specs.declared.turns.Turn.{Turn}
-use Rattle.pc_refusals.specs.Source.{AcceptedStage, ScheduleStage, SourceStage, source_limit}
-use Rattle.pc_refusals.specs.Derivation.{DerivationStage, Judging}
-use Rattle.pc_refusals.specs.Derivation.Judging.{holds, fails}
-use Rattle.pc_refusals.specs.Verdict.{Named, Reading, whole, IsReadingOf, EndsAs, Verdict, IsAccepting, done}
-use Rattle.pc_refusals.specs.declared.source.Source.{Source}
-use Rattle.pc_refusals.specs.declared.typing.Accepted.{Accepted}
-use Rattle.pc_refusals.proofs.Derivations.{derivation_says}
-use Rattle.pc_refusals.proofs.LastStages.{ends_cases, ends_one, ends_status, from_status, passed}
-use Rattle.pc_refusals.proofs.OneSource.{one_from, one_source}
-use Rattle.pc_refusals.proofs.Scheduled.{schedule_says}
-use Rattle.pc_refusals.proofs.Statuses.{IsLate, IsOther, accepted_refuses, derivation_other, other_refuses, schedule_other, source_other}
-use Rattle.pc_top.specs.CoreOf.{CoreOf, IsDerivable}
-use Rattle.pc_top.specs.Shapes.{LastOfTurns, OfAccepted, OfDerivation, OfJudged, OfScheduled, OfTurns}
-use Rattle.pc_top.proofs.Accepted.{derivable, of_source, of_told}
-use Rattle.pc_top.proofs.Deriving.{accepted_source, source_says}
-use Rattle.pc_top.proofs.OneStages.{formed_of, one_accepted, one_derivation, one_judging, one_schedule}
-use Rattle.pc_top.proofs.Premises.{Laws}
+use Rattle.pc_sched.specs.{Schedules.{schedule_limit, TurnList}, declared.turns.Turn.Turn}
+use Rattle.pc_refusals.specs.{Source.{AcceptedStage, ScheduleStage, SourceStage, source_limit}, Derivation.{DerivationStage, Judging}, Derivation.Judging.{holds, fails}, Verdict.{Named, Reading, whole, IsReadingOf, EndsAs, Verdict, IsAccepting, done}, declared.source.Source.Source, declared.typing.Accepted.Accepted}
+use Rattle.pc_refusals.proofs.{Derivations.derivation_says, LastStages.{ends_cases, ends_one, ends_status, from_status, passed}, OneSource.{one_from, one_source}, Scheduled.schedule_says, Statuses.{IsLate, IsOther, accepted_refuses, derivation_other, other_refuses, schedule_other, source_other}}
+use Rattle.pc_top.specs.{CoreOf.{CoreOf, IsDerivable}, Shapes.{LastOfTurns, OfAccepted, OfDerivation, OfJudged, OfScheduled, OfTurns}}
+use Rattle.pc_top.proofs.{Accepted.{derivable, of_source, of_told}, Deriving.{accepted_source, source_says}, OneStages.{formed_of, one_accepted, one_derivation, one_judging, one_schedule}, Premises.Laws}
 
 -- ---- an accepted source
 

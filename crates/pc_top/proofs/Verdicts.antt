@@ -1,35 +1,18 @@
 -- What holds of each verdict, from the rooms of the commands, and what holds of each answer.
 use Rattle.std.proofs.Common.{◌≡◌, ℕ, List, Option, Some, None, inl, sym, ap, subst, ◌∙◌, arith}
 use Rattle.std.specs.Io.KnownBytes.{Appends}
-use Rattle.pc_lists.specs.Lists.{Text}
+use Rattle.pc_base.specs.Lists.{Text}
 use Rattle.pc_args.specs.Asked.{Asked, command_of}
 use Rattle.pc_io.specs.Sink.{Change}
-use Rattle.pc_isolation.specs.ValidLaws.{ValidIsIsolated, ValidIsPassedWhole}
+use Rattle.pc_isolation.specs.{ValidLaws.{ValidIsIsolated, ValidIsPassedWhole}, ForGood.ValidKeepsVal}
 use Rattle.pc_regions.specs.Laws.{ValidIsSafe}
-use Rattle.pc_refusals.specs.Verdict.{Answer, Files, named, Verdict, IsAccepting}
-use Rattle.pc_refusals.specs.Verdict.Answer.{given as answer_given, file as answer_file, out_failed, err_failed, file_err_failed, no_memory}
+use Rattle.pc_refusals.specs.{Verdict.{Answer, Files, named, Verdict, IsAccepting}, Verdict.Answer.{given as answer_given, file as answer_file, out_failed, err_failed, file_err_failed, no_memory}}
 use Rattle.pc_refusals.proofs.Statuses.{IsOwn}
-use Rattle.pc_top.specs.Asked.{Accepts, FailedIn, HasNoDerivation, HasNoDerivationOf, IsVerdict, OfFile, OfSource}
-use Rattle.pc_top.specs.Laws.{RefusedIsUnderivable}
-use Rattle.pc_top.specs.Commands.{IsVerdictOf, OnOutOf, source_of}
+use Rattle.pc_top.specs.{Asked.{Accepts, FailedIn, HasNoDerivation, HasNoDerivationOf, IsVerdict, OfFile, OfSource}, Laws.{RefusedIsUnderivable, TablesTell, DerivableIsSafe, DerivableIsIsolated, DerivableIsReliable}, Commands.{IsVerdictOf, OnOutOf, source_of}, CoreOf.IsDerivable, CoresFormed.CoresAreFormed, Failures.NoVerdictIsAFailure, OnOut.{OnOut, Swaps, Traces}, One.{TellsOf, UnfailedOf, VerdictIsOne}}
 use Rattle.pc_gen.specs.Generated.{generated_text}
-use Rattle.pc_top.specs.Laws.{TablesTell}
-use Rattle.pc_top.specs.CoreOf.{IsDerivable}
-use Rattle.pc_top.specs.Laws.{DerivableIsSafe}
-use Rattle.pc_isolation.specs.ForGood.{ValidKeepsVal}
 use Rattle.pc_guarantees.specs.Laws.{SafeProgresses, ValidIsOwned, ValidReadsVal}
 use Rattle.pc_swap.specs.Confluence.{ArrivalsDecide}
-use Rattle.pc_top.specs.Laws.{DerivableIsIsolated, DerivableIsReliable}
-use Rattle.pc_top.specs.CoresFormed.{CoresAreFormed}
-use Rattle.pc_top.specs.Failures.{NoVerdictIsAFailure}
-use Rattle.pc_top.specs.OnOut.{OnOut, Swaps, Traces}
-use Rattle.pc_top.specs.One.{TellsOf, UnfailedOf, VerdictIsOne}
-use Rattle.pc_top.proofs.Accepted.{accepting, some_by}
-use Rattle.pc_top.proofs.Premises.{Laws, Refusing}
-use Rattle.pc_top.proofs.Room.{two_not_one, two_own, two_refuses}
-use Rattle.pc_top.proofs.Rooms.{room_of}
-use Rattle.pc_top.proofs.Rooms.Swap.{swap_done}
-use Rattle.pc_top.proofs.Rooms.Trace.{trace_done}
+use Rattle.pc_top.proofs.{Accepted.{accepting, some_by}, Premises.{Laws, Refusing}, Room.{two_not_one, two_own, two_refuses}, Rooms.room_of, Rooms.Swap.swap_done, Rooms.Trace.trace_done}
 
 -- the status of words that are refused
 two : (v : Verdict) (files : Files) → IsVerdictOf files None v → v.status ≡ 2

@@ -3,30 +3,14 @@ use Rattle.std.proofs.Common.{◌≡◌, ◌≤◌, ℕ, length, Option, Some, O
 use Rattle.std.specs.Prelude.{IfSome}
 use Rattle.pc_ann.specs.declared.annotation.Ann.{Ann}
 use Rattle.pc_deriv.specs.Text.{derivation_limit, IsText, deriv_text}
-use Rattle.pc_lists.specs.Lists.{Text}
+use Rattle.pc_base.specs.Lists.{Text}
 use Rattle.pc_args.specs.Asked.{Asked}
 use Rattle.pc_deriv.specs.declared.version.Version.TheVariants as version
-use Rattle.pc_refusals.specs.Source.{AcceptedStage, SourceStage, source_limit}
-use Rattle.pc_refusals.specs.Source.After.{goes}
-use Rattle.pc_refusals.specs.Derivation.{in_parts}
-use Rattle.pc_refusals.specs.Derivation.Deriving.{reads}
-use Rattle.pc_refusals.specs.Derivation.Judging.{holds}
-use Rattle.pc_refusals.specs.Source.FromFile.{goes_on}
-use Rattle.pc_refusals.specs.Verdict.{Files, Reading, whole, IsReadingOf, file_at, named, Verdict, done}
-use Rattle.pc_refusals.specs.Source.Length.{fits}
-use Rattle.pc_refusals.proofs.LastStages.{passed}
-use Rattle.pc_refusals.proofs.Lengths.{text_within}
-use Rattle.pc_refusals.proofs.Statuses.{accepted_refuses}
-use Rattle.pc_top.specs.Commands.{IsVerdictOf}
-use Rattle.pc_top.specs.Commands.Check.{Derived, IsCheck}
-use Rattle.pc_core_commands.specs.Judge.{accepted_text}
-use Rattle.pc_top.specs.Commands.Judge.{IsJudge}
-use Rattle.pc_top.specs.Commands.Upgrade.{IsUpgrade}
-use Rattle.pc_top.specs.Laws.{UpgradedIsAccepted, WrittenIsAccepted}
-use Rattle.pc_top.specs.Shapes.{OfDerivation}
-use Rattle.pc_top.proofs.Accepted.{source_whole}
-use Rattle.pc_top.proofs.Deriving.{source_says, accepted_source}
-use Rattle.pc_top.proofs.Shapes.{Derives, derivation_derives}
+use Rattle.pc_refusals.specs.{Source.{AcceptedStage, SourceStage, source_limit}, Source.After.goes, Derivation.in_parts, Derivation.Deriving.reads, Derivation.Judging.holds, Source.FromFile.goes_on, Verdict.{Files, Reading, whole, IsReadingOf, file_at, named, Verdict, done}, Source.Length.fits}
+use Rattle.pc_refusals.proofs.{LastStages.passed, Lengths.text_within, Statuses.accepted_refuses}
+use Rattle.pc_top.specs.{Commands.IsVerdictOf, Commands.Check.{Derived, IsCheck}, Commands.Judge.IsJudge, Commands.Upgrade.IsUpgrade, Laws.{UpgradedIsAccepted, WrittenIsAccepted}, Shapes.OfDerivation}
+use Rattle.pc_commands.specs.Judge.{accepted_text}
+use Rattle.pc_top.proofs.{Accepted.source_whole, Deriving.{source_says, accepted_source}, Shapes.{Derives, derivation_derives}}
 
 told_same : (limit : ℕ) (given other : Option Text) (bytes : Text) → other ≡ given → (length bytes ≤ limit) × IfSome given (λ b. bytes ≡ b) → (length bytes ≤ limit) × IfSome other (λ b. bytes ≡ b)
 told_same limit given other bytes e g = (g.0, subst (λ (o : Option Text). IfSome o (λ b. bytes ≡ b)) (sym e) g.1)

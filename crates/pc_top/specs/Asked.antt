@@ -1,10 +1,10 @@
 -- The verdict on the words of a command line.
 use Rattle.std.specs.Prelude.{ℕ, ◌≡◌, Option, Some, None, List, IfSome, IsTrue}
-use Rattle.pc_args.specs.{Line.IsSeed, Line.IsSize, Asked.Asked, Asked.make, Asked.command_of}
+use Rattle.pc_args.specs.{Line.{IsSeed, IsSize}, Asked.{Asked, make, command_of}}
 use Rattle.pc_gen.specs.Generated.{generated_text}
-use Rattle.pc_lists.specs.Lists.{Text}
+use Rattle.pc_base.specs.Lists.{Text}
 use Rattle.pc_refusals.specs.Verdict.{Files, Verdict}
-use Rattle.pc_top.specs.{Commands.FailedOf, Commands.IsVerdictOf, Commands.infers, Commands.source_of, CoreOf.IsDerivable, CoreOf.IsUnderivable, CoreOf.HasSafeCore, Guarantees.HasDecidedCore, Guarantees.HasFrozenCore, Guarantees.HasOwnedCore, Guarantees.HasProgressingCore, IsolatedCore.HasIsolatedCore}
+use Rattle.pc_top.specs.{Commands.{FailedOf, IsVerdictOf, infers, source_of}, CoreOf.{IsDerivable, IsUnderivable, HasSafeCore}, Guarantees.{HasDecidedCore, HasFrozenCore, HasOwnedCore, HasProgressingCore}, IsolatedCore.HasIsolatedCore}
 
 -- The verdict on the words: a status, a text on out and a line on err.
 abbrev pub IsVerdict : Files → List Text → Verdict → Type 0

@@ -14,15 +14,14 @@ pub mod Show
 pub mod Swap
 pub mod Trace
 pub mod Upgrade
-use Rattle.std.specs.Prelude.{ℕ, ◌≡◌, ◌⊎◌, Bool, true, false, [], Option, Some, None, IfSome}
-use Rattle.std.specs.Io.KnownBytes.{Appends}
-use Rattle.pc_lists.specs.Lists.{Text}
-use Rattle.pc_args.specs.{Asked.Asked, Asked.check, Asked.events, Asked.explain, Asked.judge, Asked.make, Asked.outcomes, Asked.places, Asked.play, Asked.run, Asked.schedule_of, Asked.sends, Asked.show, Asked.swap, Asked.trace, Asked.upgrade, Line.IsSeed, Line.IsSize}
+use Rattle.std.specs.{Prelude.{ℕ, ◌≡◌, ◌⊎◌, Bool, true, false, [], Option, Some, None, IfSome}, Io.KnownBytes.Appends}
+use Rattle.pc_base.specs.Lists.{Text}
+use Rattle.pc_args.specs.{Asked.{Asked, check, events, explain, judge, make, outcomes, places, play, run, schedule_of, sends, show, swap, trace, upgrade}, Line.{IsSeed, IsSize}}
 use Rattle.pc_io.specs.Sink.{Change}
 use Rattle.pc_refusal_lines.specs.Lines.{usage_line}
 use Rattle.pc_refusals.specs.Verdict.{FailedAt, Files, named, Verdict, refused}
-use Rattle.pc_top.specs.{Commands.Check.IsCheck, Commands.Check.WritesDerivation, Commands.Events.IsEvents, Commands.Events.WritesEvents, Commands.Explain.IsExplain, Commands.Explain.WritesExplained, Commands.Judge.IsJudge, Commands.Make.IsMake, Commands.Make.WritesMade, Commands.Outcomes.IsOutcomes, Commands.Outcomes.WritesOutcomes, Commands.Places.IsPlaces, Commands.Places.WritesPlaces, Commands.Play.IsPlay, Commands.Play.WritesPlay, Commands.Run.IsRun, Commands.Run.WritesRun, Commands.Schedule.IsSchedule, Commands.Schedule.WritesSchedule, Commands.Sends.IsSends, Commands.Sends.WritesSends, Commands.Show.IsShow, Commands.Show.WritesTree, Commands.Swap.IsSwap, Commands.Swap.UnreadSwap, Commands.Swap.WritesSwap, Commands.Trace.IsTrace, Commands.Trace.WritesTrace, Commands.Upgrade.IsUpgrade, Commands.Upgrade.WritesUpgraded, Shapes.UnreadDerivation, Shapes.UnreadNumbered, Shapes.UnreadScheduled}
-use Rattle.pc_core_commands.specs.{Judge.accepted_text, Outcomes.IsCount, Swap.IsPlace}
+use Rattle.pc_top.specs.{Commands.Check.{IsCheck, WritesDerivation}, Commands.Events.{IsEvents, WritesEvents}, Commands.Explain.{IsExplain, WritesExplained}, Commands.Judge.IsJudge, Commands.Make.{IsMake, WritesMade}, Commands.Outcomes.{IsOutcomes, WritesOutcomes}, Commands.Places.{IsPlaces, WritesPlaces}, Commands.Play.{IsPlay, WritesPlay}, Commands.Run.{IsRun, WritesRun}, Commands.Schedule.{IsSchedule, WritesSchedule}, Commands.Sends.{IsSends, WritesSends}, Commands.Show.{IsShow, WritesTree}, Commands.Swap.{IsSwap, UnreadSwap, WritesSwap}, Commands.Trace.{IsTrace, WritesTrace}, Commands.Upgrade.{IsUpgrade, WritesUpgraded}, Shapes.{UnreadDerivation, UnreadNumbered, UnreadScheduled}}
+use Rattle.pc_commands.specs.{Judge.accepted_text, Outcomes.IsCount, Swap.IsPlace}
 
 -- A command's verdict. Words that the command line does not take are refused with status 2.
 abbrev pub IsVerdictOf : Files → Option Asked → Verdict → Type 0

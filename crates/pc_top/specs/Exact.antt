@@ -4,11 +4,11 @@ use Rattle.pc_ann.specs.declared.annotation.Ann.{Ann}
 use Rattle.pc_core.specs.CoreData.{CoreData}
 use Rattle.pc_deriv.specs.Text.{IsText}
 use Rattle.pc_valid.specs.Valid.{Valid}
-use Rattle.pc_args.specs.{Line.IsSeed, Line.IsSize, Asked.Asked, Asked.check, Asked.judge, Asked.make, Asked.upgrade, Asked.command_of}
+use Rattle.pc_args.specs.{Line.{IsSeed, IsSize}, Asked.{Asked, check, judge, make, upgrade, command_of}}
 use Rattle.pc_gen.specs.Generated.{generated_text}
-use Rattle.pc_lists.specs.Lists.{Text}
-use Rattle.pc_top.specs.{Asked.IsVerdict, Words.HasNumber, Commands.infers, Commands.source_of, CoreOf.CoreOf, CoreOf.IsDerivable, CoreOf.IsUnderivable}
-use Rattle.pc_refusals.specs.{Verdict.Files, Verdict.Verdict, Knowing.NoneFailed}
+use Rattle.pc_base.specs.Lists.{Text}
+use Rattle.pc_top.specs.{Asked.IsVerdict, Words.HasNumber, Commands.{infers, source_of}, CoreOf.{CoreOf, IsDerivable, IsUnderivable}}
+use Rattle.pc_refusals.specs.{Verdict.{Files, Verdict}, Knowing.NoneFailed}
 
 -- The words ask for this, and have this verdict. The bytes of the command's source are known, and no reading of it
 -- failed.

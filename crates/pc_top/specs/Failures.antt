@@ -1,7 +1,6 @@
 -- No verdict has the status of a failure or of running out of memory.
-use Rattle.std.specs.Prelude.{ℕ, ◌≡◌, ◌≤◌, ◌⊎◌, List}
-use Rattle.std.specs.Io.KnownBytes.{Appends, Keeps}
-use Rattle.pc_lists.specs.Lists.{Text}
+use Rattle.std.specs.{Prelude.{ℕ, ◌≡◌, ◌≤◌, ◌⊎◌, List}, Io.KnownBytes.{Appends, Keeps}}
+use Rattle.pc_base.specs.Lists.{Text}
 use Rattle.pc_io.specs.Sink.{Change, HasRisen, GrowsByPrefix}
 use Rattle.pc_refusals.specs.Verdict.{Answer, TellsPart, Files, Verdict}
 use Rattle.pc_top.specs.Asked.{FailedIn, IsVerdict}

@@ -5,11 +5,11 @@ use Rattle.pc_core.specs.CoreData.{CoreData}
 use Rattle.pc_noted_receivers.specs.Noted.{noted_entities}
 use Rattle.pc_valid.specs.Valid.{Valid}
 use Rattle.pc_sends.specs.{Tables.IsTable, declared.table.Table.Table}
-use Rattle.pc_lists.specs.Lists.{Text}
+use Rattle.pc_base.specs.Lists.{Text}
 use Rattle.pc_args.specs.Asked.{check, judge, upgrade, command_of}
 use Rattle.pc_refusals.specs.Verdict.{Files, Verdict, done}
-use Rattle.pc_core_commands.specs.{Judge.accepted_text, Sends.NamesAreThere, Sends.TellsEveryRun}
-use Rattle.pc_top.specs.{CoreOf.CoreOf, CoreOf.IsDerivable, CoreOf.HasSafeCore, Guarantees.HasDecidedCore, Guarantees.HasFrozenCore, Guarantees.HasOwnedCore, Guarantees.HasProgressingCore, IsolatedCore.HasIsolatedCore, Asked.IsVerdict, Asked.HasNoDerivation}
+use Rattle.pc_commands.specs.{Judge.accepted_text, Sends.{NamesAreThere, TellsEveryRun}}
+use Rattle.pc_top.specs.{CoreOf.{CoreOf, IsDerivable, HasSafeCore}, Guarantees.{HasDecidedCore, HasFrozenCore, HasOwnedCore, HasProgressingCore}, IsolatedCore.HasIsolatedCore, Asked.{IsVerdict, HasNoDerivation}}
 
 -- What the table of a source names exists, and it is right about every run, if it is made with a valid annotation of the
 -- source's core.

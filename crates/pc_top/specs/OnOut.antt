@@ -1,10 +1,10 @@
 -- What is on out after a command has passed all its stages.
 use Rattle.std.specs.Prelude.{ℕ, ◌≡◌, Option, Some, List, IfSome}
-use Rattle.pc_lists.specs.Lists.{Text}
+use Rattle.pc_base.specs.Lists.{Text}
 use Rattle.pc_args.specs.Asked.{swap, trace, command_of}
 use Rattle.pc_io.specs.Sink.{Change}
 use Rattle.pc_top.specs.{Commands.OnOutOf, Commands.Swap.WritesSwap, Commands.Trace.WritesTrace}
-use Rattle.pc_core_commands.specs.Swap.{IsPlace}
+use Rattle.pc_commands.specs.Swap.{IsPlace}
 
 -- What the command of the words writes, if the bytes of its files are known: the source's derivation, `accepted`, the
 -- text of the run, the printed tree or the core with its places; or why the source is refused, or that it is accepted;

@@ -1,9 +1,9 @@
 -- There is at most one verdict for the words and the known bytes of the files.
 use Rattle.std.specs.Prelude.{◌≡◌, Option, Some, None, List}
-use Rattle.pc_lists.specs.Lists.{Text}
+use Rattle.pc_base.specs.Lists.{Text}
 use Rattle.pc_args.specs.Asked.{Asked, command_of}
 use Rattle.pc_top.specs.{Asked.IsVerdict, Words.files_of}
-use Rattle.pc_refusals.specs.{Verdict.Files, Verdict.Verdict, Knowing.AllKnown, Knowing.NoneFailed}
+use Rattle.pc_refusals.specs.{Verdict.{Files, Verdict}, Knowing.{AllKnown, NoneFailed}}
 
 -- The bytes of the files that the words name are known.
 abbrev pub TellsOf : (Text → Option Text) → Option Asked → Type 0

@@ -1,6 +1,6 @@
 -- From what `schedule` writes to what `play` and `run` do with it.
 use Rattle.std.specs.Prelude.{◌≡◌, Some, List}
-use Rattle.pc_lists.specs.Lists.{Text}
+use Rattle.pc_base.specs.Lists.{Text}
 use Rattle.pc_args.specs.Asked.{Asked, command_of, play, run, schedule_of}
 use Rattle.pc_refusals.specs.Verdict.{Files, Verdict, done}
 use Rattle.pc_top.specs.{Asked.IsVerdict, One.UnfailedOf}

@@ -2,7 +2,7 @@
 use Rattle.std.specs.Prelude.{ℕ, ◌≡◌, Option, Some, IfSome}
 use Rattle.pc_core.specs.CoreData.{CoreData}
 use Rattle.pc_referee.specs.Asked.{Pairs}
-use Rattle.pc_lists.specs.Lists.{Text}
+use Rattle.pc_base.specs.Lists.{Text}
 use Rattle.pc_args.specs.Asked.{Asked, judge}
 use Rattle.pc_refusals.specs.Derivation.{JudgedFile}
 use Rattle.pc_top.specs.CoreOf.{CoreOf}

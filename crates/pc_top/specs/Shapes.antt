@@ -2,11 +2,11 @@
 use Rattle.std.specs.Prelude.{ℕ, ◌≡◌, List}
 use Rattle.pc_ann.specs.declared.annotation.Ann.{Ann}
 use Rattle.pc_deriv.specs.Text.{derivation_limit}
-use Rattle.pc_lists.specs.Lists.{Text}
+use Rattle.pc_base.specs.Lists.{Text}
 use Rattle.pc_core.specs.CoreData.{CoreData}
 use Rattle.pc_run.specs.Spreading.{spread}
 use Rattle.pc_sched.specs.Schedules.{schedule_limit}
-use Rattle.pc_refusals.specs.{Source.AcceptedStage, Source.FailedInTurn, Source.FromFile, Source.ScheduleStage, Source.SourceStage, Source.source_limit, Derivation.DerivationStage, Derivation.Judging, Verdict.FailedAt, Verdict.Named, Verdict.EndsAs, Verdict.Verdict, Verdict.refused, declared.source.Source.Source, declared.typing.Accepted.Accepted}
+use Rattle.pc_refusals.specs.{Source.{AcceptedStage, FailedInTurn, FromFile, ScheduleStage, SourceStage, source_limit}, Derivation.{DerivationStage, Judging}, Verdict.{FailedAt, Named, EndsAs, Verdict, refused}, declared.source.Source.Source, declared.typing.Accepted.Accepted}
 use Rattle.pc_refusal_lines.specs.Lines.{usage_line}
 
 -- A source passes every stage of one that is accepted, and then comes the last part.

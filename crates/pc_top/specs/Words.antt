@@ -1,8 +1,8 @@
 -- What the words of each command name: the files that it reads, and its number.
 use Rattle.std.specs.Prelude.{ℕ, List, [], ◌∷◌}
-use Rattle.pc_lists.specs.Lists.{Text}
-use Rattle.pc_args.specs.{Asked.Asked, Asked.check, Asked.events, Asked.explain, Asked.judge, Asked.make, Asked.outcomes, Asked.places, Asked.play, Asked.run, Asked.schedule_of, Asked.sends, Asked.show, Asked.swap, Asked.trace, Asked.upgrade, Line.IsSeed}
-use Rattle.pc_core_commands.specs.{Outcomes.IsCount, Swap.IsPlace}
+use Rattle.pc_base.specs.Lists.{Text}
+use Rattle.pc_args.specs.{Asked.{Asked, check, events, explain, judge, make, outcomes, places, play, run, schedule_of, sends, show, swap, trace, upgrade}, Line.IsSeed}
+use Rattle.pc_commands.specs.{Outcomes.IsCount, Swap.IsPlace}
 
 -- The files that a command reads, in this order.
 abbrev pub files_of : Asked → List Text

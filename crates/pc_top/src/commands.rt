@@ -1,6 +1,6 @@
 //! The commands, each in a file of its own, and which of them the words ask for.
 ghost use Rattle.std.specs.Prelude.{◌≡◌, ◌≤◌, Some};
-ghost use Rattle.pc_lists.specs.Lists.{Text};
+ghost use Rattle.pc_base.specs.Lists.{Text};
 ghost use Rattle.pc_args.specs.Commands.{asked_by};
 ghost use Rattle.pc_io.specs.Sink.{change};
 ghost use Rattle.pc_refusals.specs.Inner.Answering.{EndsCommand};

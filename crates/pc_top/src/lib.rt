@@ -1,5 +1,5 @@
 //! The top call: everything that the program does, from its words, files and sinks to its exit status. What a command
-//! does with a core is below, in `pc_core_commands`.
+//! does with a core is below, in `pc_commands`.
 //!
 //! Proved: the clauses of `rcap`, and the laws beside it.
 //! - There is at most one verdict on files that are known and did not fail (`verdict_is_one`), and none has the
@@ -27,9 +27,10 @@ mod source;
 mod top;
 
 pub use laws::{
-    cores_of_sources_are_formed, derivable_sources_are_isolated, derivable_sources_are_reliable, derivable_sources_are_safe,
-    failures_are_told, judged_statuses_are_exact, no_verdict_is_a_failure, plays_are_runs,
-    refused_sources_have_no_derivation, statuses_are_exact, tables_tell_of_every_run,
-    upgraded_derivations_are_accepted, verdict_is_one, written_derivations_are_accepted,
+    cores_of_sources_are_formed, derivable_sources_are_isolated, derivable_sources_are_reliable,
+    derivable_sources_are_safe, failures_are_told, judged_statuses_are_exact,
+    no_verdict_is_a_failure, plays_are_runs, refused_sources_have_no_derivation,
+    statuses_are_exact, tables_tell_of_every_run, upgraded_derivations_are_accepted,
+    verdict_is_one, written_derivations_are_accepted,
 };
 pub use top::rcap;

@@ -1,6 +1,6 @@
 //! A number among the words, and then a source that must be accepted.
 ghost use Rattle.std.specs.Prelude.{◌≡◌, ◌≤◌};
-ghost use Rattle.pc_lists.specs.Lists.{Text};
+ghost use Rattle.pc_base.specs.Lists.{Text};
 ghost use Rattle.pc_refusals.specs.Verdict.{files_change};
 ghost use Rattle.pc_top.specs.Inner.Numbering.{NumberedEnds};
 

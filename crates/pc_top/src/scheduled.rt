@@ -1,11 +1,11 @@
 //! A source that must be accepted, and then a schedule.
 ghost use Rattle.std.specs.Prelude.{◌≡◌, ◌≤◌};
-ghost use Rattle.pc_lists.specs.Lists.{Text};
+ghost use Rattle.pc_base.specs.Lists.{Text};
 ghost use Rattle.pc_refusals.specs.Verdict.{files_change};
 ghost use Rattle.pc_top.specs.Inner.Scheduling.{ScheduledEnds};
 
 use crate::accepting::accept_source;
-use pc_caps::List;
+use pc_base::List;
 use pc_io::Files;
 use pc_refusals::{Accepted, Stop, read_schedule};
 use pc_sched::Turn;

@@ -1,6 +1,6 @@
 //! The top call.
 ghost use Rattle.std.specs.Prelude.{◌≡◌, ◌≤◌};
-ghost use Rattle.pc_lists.specs.Lists.{Text};
+ghost use Rattle.pc_base.specs.Lists.{Text};
 ghost use Rattle.pc_refusals.specs.Verdict.{Answer, Completes, files_change, IsAccepting};
 ghost use Rattle.pc_refusals.specs.Inner.Answering.{EndsCommand};
 ghost use Rattle.pc_top.specs.Asked.{Accepts, FailedIn, IsMadeDecided, IsMadeFrozen, IsMadeIsolated, IsMadeOwned, IsMadeProgressing, IsMadeSafe, IsVerdict, HasNoDerivation};
@@ -12,8 +12,8 @@ ghost use Rattle.pc_top.specs.Referee.{Asks};
 
 use crate::commands::run_command;
 use crate::laws::{
-    derivable_sources_are_isolated, derivable_sources_are_reliable, derivable_sources_are_safe, refused_sources_have_no_derivation,
-    tables_tell_of_every_run,
+    derivable_sources_are_isolated, derivable_sources_are_reliable, derivable_sources_are_safe,
+    refused_sources_have_no_derivation, tables_tell_of_every_run,
 };
 use pc_args::{WordsFault, read_words};
 use pc_io::{Files, Sink};

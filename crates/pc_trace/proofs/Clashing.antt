@@ -1,12 +1,9 @@
 -- Accesses that clash, seen from one of them.
 use Rattle.std.specs.Prelude.{◌≡◌, ◌<◌, ◌≤◌, ℕ, zero, suc, ◌+◌, ◌-◌, List, [], ◌∷◌, length, get_or, Option, Some, None, slice_get, refl}
-use Rattle.std.proofs.Common.{inl, inr, ap, sym, subst, ◌∙◌, arith}
-use Rattle.std.proofs.lemmas.Option.{same_Some, none-some}
-use Rattle.std.proofs.lemmas.Bool.Decides.{leb_tells}
+use Rattle.std.proofs.{Common.{inl, inr, ap, sym, subst, ◌∙◌, arith}, lemmas.Option.{same_Some, none-some}, lemmas.Bool.Decides.leb_tells}
 use Rattle.pc_clocks.specs.Seats.{number}
-use Rattle.pc_trace.specs.declared.touch.Touch.{Touch}
-use Rattle.pc_lists.proofs.Gets.{get_within}
-use Rattle.pc_trace.specs.Clashes.{Clash, IsKnownTo, Unknown, KnownBetween, KnownUpTo, LatestUnknown, FoundOfAccess, FirstUnknown}
+use Rattle.pc_trace.specs.{declared.touch.Touch.Touch, Clashes.{Clash, IsKnownTo, Unknown, KnownBetween, KnownUpTo, LatestUnknown, FoundOfAccess, FirstUnknown}}
+use Rattle.pc_base.proofs.Gets.{get_within}
 
 pub none_counted : (clock : List ℕ) (a : ℕ) → slice_get clock a ≡ None → number clock a ≡ 0
 none_counted [] a e = refl

@@ -1,17 +1,10 @@
 -- The places of a field, one after another, and what represents all earlier accesses.
 use Rattle.std.specs.Prelude.{◌≡◌, ◌≢◌, ◌⊎◌, ◌<◌, ◌≤◌, ℕ, zero, suc, ◌+◌, max, true, false, List, [], ◌∷◌, ◌++◌, length, get_or, Option, Some, None, slice_get, refl}
-use Rattle.std.proofs.Common.{inl, inr, ap, sym, subst, ◌∙◌, arith}
-use Rattle.std.proofs.lemmas.Option.{same_Some}
-use Rattle.std.proofs.lemmas.Bool.Decides.{eqb_tells, leb_tells}
-use Rattle.pc_lists.specs.Lists.{Has}
-use Rattle.pc_lists.proofs.Gets.{get_below, get_within, get_front, get_behind, get_push}
+use Rattle.std.proofs.{Common.{inl, inr, ap, sym, subst, ◌∙◌, arith}, lemmas.Option.same_Some, lemmas.Bool.Decides.{eqb_tells, leb_tells}}
+use Rattle.pc_base.specs.Lists.{Has}
+use Rattle.pc_base.proofs.Gets.{get_below, get_within, get_front, get_behind, get_push}
 use Rattle.pc_clocks.specs.Seats.{number}
-use Rattle.pc_trace.specs.declared.lasts.Spot.{Spot}
-use Rattle.pc_trace.specs.declared.touch.Touch.{Touch}
-use Rattle.pc_trace.specs.Clashes.{Clash, IsKnownTo, Unknown, KnownBetween, LatestUnknown, FoundOfAccess}
-use Rattle.pc_trace.specs.Covers.{spot_of, Replaces, StandsForAccess, Covers, Rises, NoneUnknown, LatestKnownOf, LatestOf, KeptOf}
-use Rattle.pc_trace.specs.Lasts.{RowList, row_of}
-use Rattle.pc_trace.specs.Rows.{further, Looked, KeptOrNot}
+use Rattle.pc_trace.specs.{declared.lasts.Spot.Spot, declared.touch.Touch.Touch, Clashes.{Clash, IsKnownTo, Unknown, KnownBetween, LatestUnknown, FoundOfAccess}, Covers.{spot_of, Replaces, StandsForAccess, Covers, Rises, NoneUnknown, LatestKnownOf, LatestOf, KeptOf}, Lasts.{RowList, row_of}, Rows.{further, Looked, KeptOrNot}}
 
 -- ---- one more place of a row
 

@@ -1,20 +1,11 @@
 -- How the outcomes of a run end.
 use Rattle.std.specs.Prelude.{◌≡◌, ◌⊎◌, ◌<◌, ℕ, zero, suc, ◌+◌, List, [], ◌∷◌, length, take, drop, Option, Some, None, slice_get, refl}
-use Rattle.std.proofs.Common.{inl, inr, ap, sym, subst, ◌∙◌, arith}
-use Rattle.std.proofs.lemmas.Option.{same_Some, none-some}
-use Rattle.std.proofs.lemmas.List.{take-append-drop}
-use Rattle.pc_lists.proofs.Gets.{get_below}
-use Rattle.pc_lists.proofs.Cuts.{drop_item, take_whole}
+use Rattle.std.proofs.{Common.{inl, inr, ap, sym, subst, ◌∙◌, arith}, lemmas.Option.{same_Some, none-some}, lemmas.List.take-append-drop}
+use Rattle.pc_base.proofs.{Gets.get_below, Cuts.{drop_item, take_whole}}
 use Rattle.pc_core.specs.CoreData.{CoreData}
-use Rattle.pc_semantics.specs.declared.outcome.Lack.{Lack}
-use Rattle.pc_semantics.specs.declared.outcome.Outcome.{Outcome}
-use Rattle.pc_semantics.specs.declared.outcome.Outcome.TheVariants.{Moved, Skipped, Lacks, TooLong}
-use Rattle.pc_semantics.specs.Configurations.{Configuration, start}
-use Rattle.pc_semantics.specs.Step.{step, followed, run_from, after, outcomes_from, outcomes}
-use Rattle.pc_semantics.specs.Text.{ended_at, end_of}
-use Rattle.pc_events.specs.Before.{at_place}
+use Rattle.pc_semantics.specs.{declared.outcome.Lack.Lack, declared.outcome.Outcome.Outcome, declared.outcome.Outcome.TheVariants.{Moved, Skipped, Lacks, TooLong}, Configurations.{Configuration, start}, Step.{step, followed, run_from, after, outcomes_from, outcomes}, Text.{ended_at, end_of}}
+use Rattle.pc_events.specs.{Before.at_place, Counting.Live}
 use Rattle.pc_events.proofs.Outcomes.{turn, goes_on}
-use Rattle.pc_events.specs.Counting.{Live}
 
 abbrev GoesOn : Option Outcome → Type 0
 GoesOn o = (o ≡ Some Moved) ⊎ (o ≡ Some Skipped)

@@ -1,26 +1,14 @@
 -- After an event, the clocks still count what they should.
 use Rattle.std.specs.Prelude.{◌≡◌, ◌≢◌, ◌<◌, ◌≤◌, ℕ, zero, suc, ◌+◌, true, false, List, [], ◌∷◌, ◌++◌, length, drop, Option, Some, slice_get, IfSome, refl}
-use Rattle.std.proofs.Common.{inl, inr, ap, sym, subst, ◌∙◌, arith}
-use Rattle.std.proofs.lemmas.Option.{same_Some, none-some}
-use Rattle.std.proofs.lemmas.Bool.Decides.{eqb_tells, leb_tells}
-use Rattle.pc_lists.proofs.Gets.{get_below, get_within, get_front, get_push, get_drop}
+use Rattle.std.proofs.{Common.{inl, inr, ap, sym, subst, ◌∙◌, arith}, lemmas.Option.{same_Some, none-some}, lemmas.Bool.Decides.{eqb_tells, leb_tells}}
+use Rattle.pc_base.proofs.Gets.{get_below, get_within, get_front, get_push, get_drop}
 use Rattle.pc_core.specs.CoreData.{CoreData}
-use Rattle.pc_semantics.specs.declared.outcome.Outcome.TheVariants.{Moved}
-use Rattle.pc_semantics.specs.Configurations.{Configuration}
-use Rattle.pc_semantics.specs.Step.{outcomes}
-use Rattle.pc_semantics.specs.declared.ahead.Ahead.{Ahead}
+use Rattle.pc_semantics.specs.{declared.outcome.Outcome.TheVariants.Moved, Configurations.Configuration, Step.outcomes, declared.ahead.Ahead.Ahead, Ahead.ahead_of}
 use Rattle.pc_semantics.specs.declared.ahead.Ahead.TheVariants as ahead
-use Rattle.pc_semantics.specs.Ahead.{ahead_of}
-use Rattle.pc_clocks.specs.declared.seat.Seat.{Seat}
-use Rattle.pc_clocks.specs.Seats.{number, clock_in, clock_of, Advanced, ChangedAt}
-use Rattle.pc_events.specs.Before.{at_place, Event, is_take, receiver_by, receiver_of, taken_before, waiting_of, waiting_for}
-use Rattle.pc_events.proofs.Boxes.{Boxes, none_behind}
-use Rattle.pc_events.specs.Counting.{Live, Counts, AtOrBefore, total, PastOf, PostOf}
-use Rattle.pc_events.proofs.Events.{one_actor}
-use Rattle.pc_events.proofs.Totals.{Moving, moving, taken_own, taken_other, taken_none, actors_by, actors_rise}
-use Rattle.pc_events.proofs.Pasts.{Taken, counts_same, counts_none, counts_event, own_past, own_post, past_kept, post_kept}
-use Rattle.pc_trace.specs.Turns.{Acts, Receives, PostsMessage, Born, FollowsEvent}
-use Rattle.pc_trace.specs.Keeps.{LetterKeeps, SeatKeeps, Keeps}
+use Rattle.pc_clocks.specs.{declared.seat.Seat.Seat, Seats.{number, clock_in, clock_of, Advanced, ChangedAt}}
+use Rattle.pc_events.specs.{Before.{at_place, Event, is_take, receiver_by, receiver_of, taken_before, waiting_of, waiting_for}, Counting.{Live, Counts, AtOrBefore, total, PastOf, PostOf}}
+use Rattle.pc_events.proofs.{Boxes.{Boxes, none_behind}, Events.one_actor, Totals.{Moving, moving, taken_own, taken_other, taken_none, actors_by, actors_rise}, Pasts.{Taken, counts_same, counts_none, counts_event, own_past, own_post, past_kept, post_kept}}
+use Rattle.pc_trace.specs.{Turns.{Acts, Receives, PostsMessage, Born, FollowsEvent}, Keeps.{LetterKeeps, SeatKeeps, Keeps}}
 
 -- The kept clocks after an event, and the one of its actor.
 pub record Behind (core : CoreData) (list : List ℕ) (k i : ℕ) (seats : List Seat) : Type 0 where

@@ -1,31 +1,15 @@
 -- A run is traced, turn by turn.
 use Rattle.std.specs.Prelude.{◌≡◌, ◌⊎◌, ◌<◌, ◌≤◌, ◌^◌, ℕ, zero, suc, ◌+◌, true, false, Bool, List, [], ◌∷◌, ◌++◌, length, Option, Some, None, slice_get, IsSomeAnd}
-use Rattle.std.proofs.Common.{inl, inr, ap, sym, subst, ◌∙◌, arith}
-use Rattle.std.proofs.lemmas.Option.{same_Some, none-some}
-use Rattle.std.proofs.lemmas.Bool.Decides.{leb_tells}
-use Rattle.pc_lists.specs.Counts.{one_if}
-use Rattle.pc_lists.proofs.Gets.{get_below, get_within, get_front, get_behind, get_push}
+use Rattle.std.proofs.{Common.{inl, inr, ap, sym, subst, ◌∙◌, arith}, lemmas.Option.{same_Some, none-some}, lemmas.Bool.Decides.leb_tells}
+use Rattle.pc_base.specs.Counts.{one_if}
+use Rattle.pc_base.proofs.Gets.{get_below, get_within, get_front, get_behind, get_push}
 use Rattle.pc_core.specs.CoreData.{CoreData}
-use Rattle.pc_semantics.specs.declared.access.Access.{Access}
-use Rattle.pc_semantics.specs.declared.outcome.Outcome.TheVariants.{Moved, Skipped}
-use Rattle.pc_semantics.specs.Configurations.{Configuration}
-use Rattle.pc_semantics.specs.Step.{outcomes}
-use Rattle.pc_semantics.specs.Safety.{access}
-use Rattle.pc_semantics.specs.declared.ahead.Ahead.{Ahead}
+use Rattle.pc_semantics.specs.{declared.access.Access.Access, declared.outcome.Outcome.TheVariants.{Moved, Skipped}, Configurations.Configuration, Step.outcomes, Safety.access, declared.ahead.Ahead.Ahead, Ahead.ahead_of}
 use Rattle.pc_semantics.specs.declared.ahead.Ahead.TheVariants as ahead
-use Rattle.pc_semantics.specs.Ahead.{ahead_of}
-use Rattle.pc_clocks.specs.declared.seat.Seat.{Seat}
-use Rattle.pc_clocks.specs.Seats.{number}
-use Rattle.pc_events.specs.Before.{at_place, Event, waiting_for}
-use Rattle.pc_events.proofs.Boxes.{Boxes}
-use Rattle.pc_events.specs.Counting.{Counts, AtOrBefore, index, is_event}
-use Rattle.pc_events.proofs.Events.{one_actor}
-use Rattle.pc_events.proofs.Totals.{moving}
-use Rattle.pc_trace.specs.declared.touch.Touch.{Touch}
-use Rattle.pc_trace.specs.Turns.{Ready}
-use Rattle.pc_trace.specs.Keeps.{Keeps}
-use Rattle.pc_trace.specs.Noted.{NotedAt, Noted}
-use Rattle.pc_trace.specs.Reached.{noted_with}
+use Rattle.pc_clocks.specs.{declared.seat.Seat.Seat, Seats.number}
+use Rattle.pc_events.specs.{Before.{at_place, Event, waiting_for}, Counting.{Counts, AtOrBefore, index, is_event}}
+use Rattle.pc_events.proofs.{Boxes.Boxes, Events.one_actor, Totals.moving}
+use Rattle.pc_trace.specs.{declared.touch.Touch.Touch, Turns.Ready, Keeps.Keeps, Noted.{NotedAt, Noted}, Reached.noted_with}
 use Rattle.pc_machine.specs.Limits.{list_limit}
 
 -- ---- numbers stay small

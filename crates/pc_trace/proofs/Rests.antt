@@ -1,17 +1,11 @@
 -- The kept clocks at the start of a run, and after a turn that is skipped.
 use Rattle.std.specs.Prelude.{◌≡◌, ◌<◌, ◌≤◌, ℕ, zero, suc, ◌+◌, List, [], ◌∷◌, length, Option, Some, None, slice_get, refl}
-use Rattle.std.proofs.Common.{ap, sym, subst, ◌∙◌, arith}
-use Rattle.std.proofs.lemmas.Option.{same_Some, none-some}
+use Rattle.std.proofs.{Common.{ap, sym, subst, ◌∙◌, arith}, lemmas.Option.{same_Some, none-some}}
 use Rattle.pc_core.specs.CoreData.{CoreData}
-use Rattle.pc_semantics.specs.declared.outcome.Outcome.TheVariants.{Moved, Skipped}
-use Rattle.pc_semantics.specs.Configurations.{Configuration, main_create, start_of, start}
-use Rattle.pc_semantics.specs.Step.{outcomes}
-use Rattle.pc_clocks.specs.declared.seat.Seat.{Seat}
-use Rattle.pc_clocks.specs.Seats.{number}
-use Rattle.pc_events.specs.Before.{at_place, Event, taken_before, waiting_for}
-use Rattle.pc_events.specs.Counting.{Counts, PastOf, PostOf}
-use Rattle.pc_events.proofs.Totals.{resting}
-use Rattle.pc_events.proofs.Pasts.{counts_none, past_kept, post_kept}
+use Rattle.pc_semantics.specs.{declared.outcome.Outcome.TheVariants.{Moved, Skipped}, Configurations.{Configuration, main_create, start_of, start}, Step.outcomes}
+use Rattle.pc_clocks.specs.{declared.seat.Seat.Seat, Seats.number}
+use Rattle.pc_events.specs.{Before.{at_place, Event, taken_before, waiting_for}, Counting.{Counts, PastOf, PostOf}}
+use Rattle.pc_events.proofs.{Totals.resting, Pasts.{counts_none, past_kept, post_kept}}
 use Rattle.pc_trace.specs.Keeps.{LetterKeeps, SeatKeeps, Keeps, first_seats}
 
 -- ---- the start

@@ -1,9 +1,7 @@
 -- Fields are told apart by their numbers.
 use Rattle.std.specs.Prelude.{◌≡◌, ◌≢◌, ℕ, Bool, true, false, ◌&&◌, nat_eq, refl}
-use Rattle.std.proofs.Common.{inl, inr, ap, sym, ◌∙◌}
-use Rattle.std.proofs.lemmas.Bool.Decides.{eqb_tells}
-use Rattle.pc_trace.specs.declared.lasts.Spot.{Spot}
-use Rattle.pc_trace.specs.Lasts.{spot_eq}
+use Rattle.std.proofs.{Common.{inl, inr, ap, sym, ◌∙◌}, lemmas.Bool.Decides.eqb_tells}
+use Rattle.pc_trace.specs.{declared.lasts.Spot.Spot, Lasts.spot_eq}
 
 same_spot : (a b : Spot) → a.maker ≡ b.maker → a.serial ≡ b.serial → a.field ≡ b.field → b ≡ a
 same_spot a b m s f =

@@ -1,44 +1,17 @@
 -- A turn of a run that is traced.
-use Rattle.std.specs.Prelude.{◌≡◌, ◌⊎◌, ◌<◌, ◌≤◌, ℕ, suc, ◌+◌, List, [], length, Option, Some, slice_get, refl}
-use Rattle.std.proofs.Common.{inl, inr, ap, sym, subst, ◌∙◌, arith}
-use Rattle.std.specs.FinMap.{len}
-use Rattle.std.proofs.lemmas.Option.{same_Some, none-some}
-use Rattle.std.proofs.lemmas.Bool.Decides.{leb_tells}
+use Rattle.std.specs.{Prelude.{◌≡◌, ◌⊎◌, ◌<◌, ◌≤◌, ℕ, suc, ◌+◌, List, [], length, Option, Some, slice_get, refl}, FinMap.len}
+use Rattle.std.proofs.{Common.{inl, inr, ap, sym, subst, ◌∙◌, arith}, lemmas.Option.{same_Some, none-some}, lemmas.Bool.Decides.leb_tells}
 use Rattle.pc_core.specs.CoreData.{CoreData}
 use Rattle.pc_heap.specs.Heaps.{object_limit}
-use Rattle.pc_semantics.specs.declared.outcome.Lack.{Lack}
-use Rattle.pc_semantics.specs.declared.outcome.Outcome.{Outcome}
-use Rattle.pc_semantics.specs.declared.outcome.Outcome.TheVariants.{Moved, Skipped, Lacks, TooLong}
-use Rattle.pc_semantics.specs.Configurations.{Configuration, start}
-use Rattle.pc_semantics.specs.Step.{step, followed, after, outcomes}
-use Rattle.pc_semantics.specs.Safety.{access}
-use Rattle.pc_semantics.specs.Text.{waiting}
-use Rattle.pc_semantics.specs.declared.ahead.Ahead.{Ahead}
+use Rattle.pc_semantics.specs.{declared.outcome.Lack.Lack, declared.outcome.Outcome.Outcome, declared.outcome.Outcome.TheVariants.{Moved, Skipped, Lacks, TooLong}, Configurations.{Configuration, start}, Step.{step, followed, after, outcomes}, Safety.access, Text.waiting, declared.ahead.Ahead.Ahead, Ahead.ahead_of}
 use Rattle.pc_semantics.specs.declared.ahead.Ahead.TheVariants as ahead
-use Rattle.pc_semantics.specs.Ahead.{ahead_of}
-use Rattle.pc_events.specs.AheadLaws.{Agrees}
-use Rattle.pc_events.proofs.Agrees.{ahead_agrees}
-use Rattle.pc_machine.specs.Machines.{message_limit}
+use Rattle.pc_events.specs.{AheadLaws.Agrees, Before.{at_place, Event}, Counting.Live}
+use Rattle.pc_events.proofs.{Agrees.ahead_agrees, Boxes.Boxes, Outcomes.turn, Totals.{moving, resting}}
+use Rattle.pc_machine.specs.{Machines.message_limit, Limits.list_limit}
 use Rattle.pc_machine.proofs.Growing.{Changes, Grown, step_changes, few_at_start}
-use Rattle.pc_clocks.specs.declared.seat.Seat.{Seat}
-use Rattle.pc_clocks.specs.Seats.{clock_of}
-use Rattle.pc_events.specs.Before.{at_place, Event}
-use Rattle.pc_events.proofs.Boxes.{Boxes}
-use Rattle.pc_events.specs.Counting.{Live}
-use Rattle.pc_events.proofs.Outcomes.{turn}
-use Rattle.pc_events.proofs.Totals.{moving, resting}
-use Rattle.pc_trace.specs.declared.touch.Touch.{Touch}
-use Rattle.pc_trace.specs.Turns.{FollowsEvent, Ready}
-use Rattle.pc_trace.specs.Keeps.{Keeps, first_seats}
-use Rattle.pc_trace.specs.Noted.{Noted}
-use Rattle.pc_trace.specs.Reached.{Reached, noted_with}
-use Rattle.pc_machine.specs.Limits.{list_limit}
-use Rattle.pc_trace.specs.Traces.{actor_limit, RanOn, TooManyAt, TooLongAt}
-use Rattle.pc_trace.specs.Stops.{LacksAt}
-use Rattle.pc_trace.proofs.Keeping.{Behind, behind_event}
-use Rattle.pc_trace.proofs.Rests.{keeps_at_start, few_actors_at_start, keeps_rested}
-use Rattle.pc_trace.proofs.Ends.{outcome_at, ran_on, at_end, ended, stops}
-use Rattle.pc_trace.proofs.Recording.{ready, noted_event, noted_rest}
+use Rattle.pc_clocks.specs.{declared.seat.Seat.Seat, Seats.clock_of}
+use Rattle.pc_trace.specs.{declared.touch.Touch.Touch, Turns.{FollowsEvent, Ready}, Keeps.{Keeps, first_seats}, Noted.Noted, Reached.{Reached, noted_with}, Traces.{actor_limit, RanOn, TooManyAt, TooLongAt}, Stops.LacksAt}
+use Rattle.pc_trace.proofs.{Keeping.{Behind, behind_event}, Rests.{keeps_at_start, few_actors_at_start, keeps_rested}, Ends.{outcome_at, ran_on, at_end, ended, stops}, Recording.{ready, noted_event, noted_rest}}
 
 -- ---- the start
 

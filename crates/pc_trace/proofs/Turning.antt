@@ -2,25 +2,12 @@
 use Rattle.std.specs.Prelude.{◌≡◌, ◌<◌, ◌≤◌, ℕ, ◌+◌, Bool, true, false, List, length, get_or, Option, Some, Ok, Err, slice_get}
 use Rattle.std.proofs.Common.{ap, sym, subst, ◌∙◌}
 use Rattle.pc_core.specs.CoreData.{CoreData}
-use Rattle.pc_semantics.specs.declared.access.Access.{Access}
-use Rattle.pc_semantics.specs.declared.outcome.Outcome.{Outcome}
-use Rattle.pc_semantics.specs.declared.outcome.Outcome.TheVariants.{Moved, Skipped, Lacks, TooLong}
-use Rattle.pc_semantics.specs.Configurations.{Configuration}
-use Rattle.pc_semantics.specs.Step.{step}
-use Rattle.pc_semantics.specs.Safety.{access}
-use Rattle.pc_semantics.specs.declared.ahead.Ahead.{Ahead}
-use Rattle.pc_semantics.specs.Ahead.{ahead_of}
-use Rattle.pc_clocks.specs.declared.seat.Seat.{Seat}
-use Rattle.pc_clocks.specs.Seats.{clock_of}
-use Rattle.pc_trace.specs.declared.touch.Touch.{Touch}
-use Rattle.pc_trace.specs.declared.fault.TraceFault.{TraceFault}
+use Rattle.pc_semantics.specs.{declared.access.Access.Access, declared.outcome.Outcome.Outcome, declared.outcome.Outcome.TheVariants.{Moved, Skipped, Lacks, TooLong}, Configurations.Configuration, Step.step, Safety.access, declared.ahead.Ahead.Ahead, Ahead.ahead_of}
+use Rattle.pc_clocks.specs.{declared.seat.Seat.Seat, Seats.clock_of}
+use Rattle.pc_trace.specs.{declared.touch.Touch.Touch, declared.fault.TraceFault.TraceFault, Turns.{FollowsEvent, Ready, Says, Room}, Reached.{Reached, noted_with}, Stops.TraceStops}
 use Rattle.pc_trace.specs.declared.fault.TraceFault.TheVariants as fault
-use Rattle.pc_trace.specs.Turns.{FollowsEvent, Ready, Says, Room}
-use Rattle.pc_trace.specs.Reached.{Reached, noted_with}
 use Rattle.pc_machine.specs.Limits.{list_limit}
-use Rattle.pc_trace.specs.Stops.{TraceStops}
-use Rattle.pc_trace.proofs.Covering.{number_there}
-use Rattle.pc_trace.proofs.Stepping.{moved_ready, moved_on, skipped_on, too_long, lacks, too_many}
+use Rattle.pc_trace.proofs.{Covering.number_there, Stepping.{moved_ready, moved_on, skipped_on, too_long, lacks, too_many}}
 
 module _ (core : CoreData) (list : List ℕ) (n : ℕ) (c : Configuration) (seats : List Seat) (touches : List Touch) (r : Reached core list n c seats touches) (within : n < length list) (few : length list ≤ list_limit) where
   abbrev i : ℕ

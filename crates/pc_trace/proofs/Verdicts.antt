@@ -1,22 +1,14 @@
 -- From the accesses that were noted to the events of the run.
 use Rattle.std.specs.Prelude.{◌≡◌, ◌≢◌, ◌<◌, ◌≤◌, ℕ, zero, suc, List, [], ◌∷◌, length, Some, slice_get, refl}
-use Rattle.std.proofs.Common.{inl, inr, ap, sym, subst, ◌∙◌, arith}
-use Rattle.std.proofs.lemmas.Option.{same_Some, none-some}
-use Rattle.std.proofs.lemmas.Bool.Decides.{eqb_tells, leb_tells}
-use Rattle.pc_lists.proofs.Gets.{get_below}
+use Rattle.std.proofs.{Common.{inl, inr, ap, sym, subst, ◌∙◌, arith}, lemmas.Option.{same_Some, none-some}, lemmas.Bool.Decides.{eqb_tells, leb_tells}}
+use Rattle.pc_base.proofs.Gets.{get_below}
 use Rattle.pc_core.specs.CoreData.{CoreData}
-use Rattle.pc_semantics.specs.declared.access.Access.{Access}
-use Rattle.pc_semantics.specs.Safety.{access}
+use Rattle.pc_semantics.specs.{declared.access.Access.Access, Safety.access}
 use Rattle.pc_clocks.specs.Seats.{number}
-use Rattle.pc_events.specs.Before.{at_place, Event, Before}
-use Rattle.pc_events.specs.Clock.{Clock, Conflict}
+use Rattle.pc_events.specs.{Before.{at_place, Event, Before}, Clock.{Clock, Conflict}}
 use Rattle.pc_events.proofs.Events.{one_actor, index_event, clock_is}
-use Rattle.pc_trace.specs.declared.touch.Touch.{Touch}
-use Rattle.pc_trace.specs.declared.touch.Verdict.{Verdict}
+use Rattle.pc_trace.specs.{declared.touch.Touch.Touch, declared.touch.Verdict.Verdict, Clashes.{Clash, IsKnownTo, Unknown, JudgedAccesses}, Noted.{NotedAt, Noted}, Traces.{AllTouches, VerdictIs}}
 use Rattle.pc_trace.specs.declared.touch.Verdict.TheVariants as verdict
-use Rattle.pc_trace.specs.Clashes.{Clash, IsKnownTo, Unknown, JudgedAccesses}
-use Rattle.pc_trace.specs.Noted.{NotedAt, Noted}
-use Rattle.pc_trace.specs.Traces.{AllTouches, VerdictIs}
 
 -- ---- two accesses
 

@@ -1,31 +1,14 @@
 -- The accesses of a whole run.
 use Rattle.std.specs.Prelude.{◌≡◌, ◌<◌, ◌≤◌, ◌^◌, ℕ, zero, suc, ◌+◌, List, [], ◌∷◌, length, Some, slice_get, refl}
-use Rattle.std.proofs.Common.{inl, inr, ap, sym, subst, ◌∙◌, arith}
-use Rattle.std.proofs.lemmas.Option.{same_Some, none-some}
-use Rattle.std.proofs.lemmas.Bool.Decides.{leb_tells}
-use Rattle.pc_lists.proofs.Gets.{get_below, get_within}
+use Rattle.std.proofs.{Common.{inl, inr, ap, sym, subst, ◌∙◌, arith}, lemmas.Option.{same_Some, none-some}, lemmas.Bool.Decides.leb_tells}
+use Rattle.pc_base.proofs.Gets.{get_below, get_within}
 use Rattle.pc_core.specs.CoreData.{CoreData}
-use Rattle.pc_semantics.specs.declared.outcome.Lack.{Lack}
-use Rattle.pc_semantics.specs.declared.outcome.Outcome.{Outcome}
-use Rattle.pc_semantics.specs.declared.outcome.Outcome.TheVariants.{Moved, Skipped, Lacks, TooLong}
-use Rattle.pc_semantics.specs.Configurations.{Configuration, start}
-use Rattle.pc_semantics.specs.Step.{step, followed, run_from, outcomes_from}
-use Rattle.pc_semantics.specs.Safety.{Safe}
-use Rattle.pc_semantics.specs.Text.{ended_at}
+use Rattle.pc_semantics.specs.{declared.outcome.Lack.Lack, declared.outcome.Outcome.Outcome, declared.outcome.Outcome.TheVariants.{Moved, Skipped, Lacks, TooLong}, Configurations.{Configuration, start}, Step.{step, followed, run_from, outcomes_from}, Safety.Safe, Text.ended_at}
 use Rattle.pc_clocks.specs.Seats.{number}
 use Rattle.pc_events.specs.Counting.{index}
-use Rattle.pc_events.proofs.Events.{index_rises}
-use Rattle.pc_events.proofs.Order.{earlier_comes_before}
-use Rattle.pc_trace.specs.declared.touch.Touch.{Touch}
-use Rattle.pc_trace.specs.declared.touch.Verdict.{Verdict}
-use Rattle.pc_trace.specs.declared.touch.Verdict.TheVariants.{Ordered}
-use Rattle.pc_trace.specs.declared.fault.TraceFault.{TraceFault}
+use Rattle.pc_events.proofs.{Events.index_rises, Order.earlier_comes_before}
+use Rattle.pc_trace.specs.{declared.touch.Touch.Touch, declared.touch.Verdict.Verdict, declared.touch.Verdict.TheVariants.Ordered, declared.fault.TraceFault.TraceFault, Clashes.JudgedAccesses, Covers.Rises, Noted.Noted, Traces.{RanOn, AllTouches, VerdictIs}, Stops.TraceStops}
 use Rattle.pc_trace.specs.declared.fault.TraceFault.TheVariants as fault
-use Rattle.pc_trace.specs.Clashes.{JudgedAccesses}
-use Rattle.pc_trace.specs.Covers.{Rises}
-use Rattle.pc_trace.specs.Noted.{Noted}
-use Rattle.pc_trace.specs.Traces.{RanOn, AllTouches, VerdictIs}
-use Rattle.pc_trace.specs.Stops.{TraceStops}
 use Rattle.pc_trace.proofs.Verdicts.{all_touches, verdict_is}
 
 -- ---- there are no more accesses than places

@@ -1,7 +1,7 @@
 -- Conflicts between the accesses that are reported.
 use Rattle.std.specs.Prelude.{◌≡◌, ◌≢◌, ◌⊎◌, ◌<◌, ◌≤◌, ℕ, suc, true, List, length, Option, Some, None, slice_get}
 use Rattle.pc_clocks.specs.Seats.{number}
-use Rattle.pc_trace.specs.{declared.touch.Touch.Touch, declared.touch.Verdict.Verdict, declared.touch.Verdict.TheVariants.Ordered, declared.touch.Verdict.TheVariants.Conflict}
+use Rattle.pc_trace.specs.{declared.touch.Touch.Touch, declared.touch.Verdict.Verdict, declared.touch.Verdict.TheVariants.{Ordered, Conflict}}
 
 -- Two accesses of different actors to one field, one of which writes.
 pub record Clash (q p : Touch) : Type 0 where

@@ -1,8 +1,8 @@
 -- For each field, the accesses that represent all earlier ones.
 use Rattle.std.specs.Prelude.{◌≡◌, ◌⊎◌, ◌<◌, ◌≤◌, ℕ, true, false, List, Option, Some, None, slice_get}
-use Rattle.pc_lists.specs.Lists.{Has}
+use Rattle.pc_base.specs.Lists.{Has}
 use Rattle.pc_clocks.specs.Seats.{number}
-use Rattle.pc_trace.specs.{declared.lasts.Spot.Spot, declared.touch.Touch.Touch, Clashes.Unknown, Lasts.RowList, Lasts.row_of}
+use Rattle.pc_trace.specs.{declared.lasts.Spot.Spot, declared.touch.Touch.Touch, Clashes.Unknown, Lasts.{RowList, row_of}}
 
 abbrev pub spot_of : Touch → Spot
 spot_of t = record { maker = t.address.maker; serial = t.address.serial; field = t.field }

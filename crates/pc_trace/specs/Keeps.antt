@@ -2,7 +2,7 @@
 use Rattle.std.specs.Prelude.{◌≡◌, ◌≤◌, ℕ, zero, suc, ◌+◌, List, [], ◌∷◌, length, Some, slice_get}
 use Rattle.pc_core.specs.CoreData.{CoreData}
 use Rattle.pc_clocks.specs.{declared.seat.Seat.Seat, Seats.number}
-use Rattle.pc_events.specs.{Before.at_place, Before.taken_before, Before.waiting_for, Counting.Counts, Counting.PastOf, Counting.PostOf}
+use Rattle.pc_events.specs.{Before.{at_place, taken_before, waiting_for}, Counting.{Counts, PastOf, PostOf}}
 
 -- The clock of message n of the mailbox of actor a, at place k.
 pub record LetterKeeps (core : CoreData) (list : List ℕ) (k a n : ℕ) (l : List ℕ) : Type 0 where

@@ -1,6 +1,5 @@
 -- Some places in the list of accesses for each field.
-use Rattle.std.specs.Prelude.{ℕ, Bool, ◌&&◌, nat_eq, List, [], Option, Some, None}
-use Rattle.std.specs.Map.{lookup}
+use Rattle.std.specs.{Prelude.{ℕ, Bool, ◌&&◌, nat_eq, List, [], Option, Some, None}, Map.lookup}
 use Rattle.pc_trace.specs.declared.lasts.Spot.{Spot}
 
 abbrev pub spot_eq : Spot → Spot → Bool

@@ -3,7 +3,7 @@ use Rattle.std.specs.Prelude.{◌≡◌, ◌<◌, ℕ, suc, List, length, Some, 
 use Rattle.pc_core.specs.CoreData.{CoreData}
 use Rattle.pc_semantics.specs.{declared.access.Access.Access, Safety.access}
 use Rattle.pc_clocks.specs.Seats.{number}
-use Rattle.pc_events.specs.{Before.at_place, Before.Event, Counting.Counts, Counting.AtOrBefore}
+use Rattle.pc_events.specs.{Before.{at_place, Event}, Counting.{Counts, AtOrBefore}}
 use Rattle.pc_trace.specs.declared.touch.Touch.{Touch}
 
 -- The access of the event at place p. Its clock counts this event and the events before it.

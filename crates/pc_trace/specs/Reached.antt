@@ -1,6 +1,5 @@
 -- A run that is being traced.
-use Rattle.std.specs.Prelude.{◌≡◌, ◌≤◌, ◌+◌, ℕ, List, [], ◌∷◌, ◌++◌, length, Option, Some, None}
-use Rattle.std.specs.FinMap.{len}
+use Rattle.std.specs.{Prelude.{◌≡◌, ◌≤◌, ◌+◌, ℕ, List, [], ◌∷◌, ◌++◌, length, Option, Some, None}, FinMap.len}
 use Rattle.pc_core.specs.CoreData.{CoreData}
 use Rattle.pc_semantics.specs.{declared.access.Access.Access, Configurations.Configuration, Text.waiting}
 use Rattle.pc_clocks.specs.declared.seat.Seat.{Seat}

@@ -1,8 +1,8 @@
 -- How a trace ends: with what is reported of the whole run, or at a step that stops it.
 use Rattle.std.specs.Prelude.{◌≡◌, ◌≤◌, ℕ, List, length, Some}
 use Rattle.pc_core.specs.CoreData.{CoreData}
-use Rattle.pc_semantics.specs.{declared.outcome.Lack.Lack, Step.after, Step.outcomes, Text.end_of}
-use Rattle.pc_trace.specs.{declared.touch.Trace.Trace, declared.fault.TraceFault.TraceFault, declared.fault.AcceptedFault.AcceptedFault, Traces.actor_limit, Traces.AllTouches, Traces.VerdictIs, Traces.RanOn, Traces.TooManyAt, Traces.TooLongAt}
+use Rattle.pc_semantics.specs.{declared.outcome.Lack.Lack, Step.{after, outcomes}, Text.end_of}
+use Rattle.pc_trace.specs.{declared.touch.Trace.Trace, declared.fault.TraceFault.TraceFault, declared.fault.AcceptedFault.AcceptedFault, Traces.{actor_limit, AllTouches, VerdictIs, RanOn, TooManyAt, TooLongAt}}
 use Rattle.pc_semantics.specs.declared.outcome.Outcome.TheVariants as outcome
 use Rattle.pc_trace.specs.declared.fault.TraceFault.TheVariants as fault
 use Rattle.pc_trace.specs.declared.fault.AcceptedFault.TheVariants as accepted

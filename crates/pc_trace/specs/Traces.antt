@@ -1,9 +1,9 @@
 -- What is reported of a run: its accesses with their clocks, and whether they are ordered.
 use Rattle.std.specs.Prelude.{◌≡◌, ◌<◌, ◌≤◌, ℕ, suc, List, length, Some, None, slice_get}
-use Rattle.pc_lists.specs.Lists.{Each}
+use Rattle.pc_base.specs.Lists.{Each}
 use Rattle.pc_core.specs.CoreData.{CoreData}
-use Rattle.pc_semantics.specs.{Ahead.ahead_of, declared.access.Access.Access, Step.after, Step.outcomes, Safety.access, Text.end_of}
-use Rattle.pc_events.specs.{Before.at_place, Before.Event, Before.Before, Clock.Clocks, Clock.Conflict}
+use Rattle.pc_semantics.specs.{Ahead.ahead_of, declared.access.Access.Access, Step.{after, outcomes}, Safety.access, Text.end_of}
+use Rattle.pc_events.specs.{Before.{at_place, Event, Before}, Clock.{Clocks, Conflict}}
 use Rattle.pc_trace.specs.{declared.touch.Touch.Touch, declared.touch.Verdict.Verdict}
 use Rattle.pc_semantics.specs.declared.ahead.Ahead.TheVariants as ahead
 use Rattle.pc_semantics.specs.declared.outcome.Outcome.TheVariants as outcome

@@ -1,7 +1,7 @@
 -- What an event does to the clocks that are kept.
 use Rattle.std.specs.Prelude.{◌≡◌, ◌+◌, ◌<◌, ◌≤◌, ◌^◌, ℕ, Bool, true, false, List, [], ◌∷◌, ◌++◌, length, drop, IfSome, IsSomeAnd, Result, Ok, Err, slice_get}
 use Rattle.pc_trace.specs.{Traces.actor_limit, declared.fault.TraceFault.TraceFault}
-use Rattle.pc_clocks.specs.{declared.seat.Seat.Seat, Seats.Advanced, Seats.ChangedAt, Seats.clock_of, Seats.number}
+use Rattle.pc_clocks.specs.{declared.seat.Seat.Seat, Seats.{Advanced, ChangedAt, clock_of, number}}
 use Rattle.pc_semantics.specs.{declared.outcome.Lack.Lack, declared.outcome.Outcome.Outcome, declared.ahead.Ahead.Ahead}
 use Rattle.pc_semantics.specs.declared.outcome.Outcome.TheVariants as outcome
 use Rattle.pc_trace.specs.declared.fault.TraceFault.TheVariants as fault

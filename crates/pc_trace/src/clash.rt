@@ -7,7 +7,7 @@ ghost use Rattle.pc_trace.specs.Covers.{Covers, Rises};
 use crate::lasts::{Lasts, field_spot};
 use crate::row::{kept_of, latest_of};
 use crate::touch::{Touch, Verdict};
-use pc_caps::List;
+use pc_base::List;
 use std::alloc::{AllocError, Global};
 
 // The number of events of an actor that a clock counts.

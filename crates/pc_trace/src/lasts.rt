@@ -3,7 +3,7 @@ ghost use Rattle.std.specs.Prelude.{◌≡◌, ◌≢◌, [], OnOk};
 ghost use Rattle.pc_trace.specs.declared.lasts.Spot.{Spot};
 ghost use Rattle.pc_trace.specs.Lasts.{row_of};
 
-use pc_caps::List;
+use pc_base::List;
 use pc_heap::Address;
 use std::alloc::{AllocError, Global};
 use std::collections::HashMap;

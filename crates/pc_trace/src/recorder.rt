@@ -11,7 +11,7 @@ use crate::fault::TraceFault;
 use crate::following::follow;
 use crate::steps::{first_seats, moved, room};
 use crate::touch::Touch;
-use pc_caps::List;
+use pc_base::List;
 use pc_clocks::Seats;
 use pc_core::Core;
 use pc_machine::{Machine, start};

@@ -7,7 +7,7 @@ ghost use Rattle.pc_trace.specs.Rows.{KeptOrNot, Looked, further};
 
 use crate::clash::is_unknown;
 use crate::touch::Touch;
-use pc_caps::List;
+use pc_base::List;
 use std::alloc::{AllocError, Global};
 
 // The later of a place and the one that was found so far.

@@ -6,7 +6,7 @@ ghost use Rattle.pc_trace.specs.Traces.{actor_limit};
 ghost use Rattle.pc_trace.specs.Turns.{Room, Says};
 
 use crate::fault::TraceFault;
-use pc_caps::List;
+use pc_base::List;
 use pc_clocks::Seats;
 use pc_semantics::{Ahead, Outcome};
 use std::alloc::{AllocError, Global};

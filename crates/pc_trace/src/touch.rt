@@ -1,6 +1,6 @@
 //! What is reported of a run.
 
-use pc_caps::List;
+use pc_base::List;
 use pc_heap::Address;
 
 /// A field of an object that was read or written by an event of a run, and what its actor knew then.

@@ -10,7 +10,7 @@ use crate::clash::judged;
 use crate::fault::{AcceptedFault, TraceFault};
 use crate::recorder::recorded;
 use crate::touch::{Touch, Trace};
-use pc_caps::List;
+use pc_base::List;
 use pc_core::Core;
 use std::alloc::Global;
 

@@ -4,7 +4,7 @@ ghost use Rattle.pc_machine.specs.Limits.{list_limit};
 ghost use Rattle.pc_valid.specs.Valid.{Valid};
 
 use pc_ann::Ann;
-use pc_caps::List;
+use pc_base::List;
 use pc_check::{CheckFault, DeclFault, check};
 use pc_core::Core;
 use pc_safe::accepted_is_safe;

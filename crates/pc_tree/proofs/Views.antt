@@ -1,22 +1,13 @@
 -- What each value represents, variant by variant.
 use Rattle.std.proofs.Common.{◌≡◌, ℕ, Bool, List, Option, rules}
-use Rattle.std.specs.declared.boxed.Box.{Box}
-use Rattle.std.specs.declared.alloc.Global.{Global}
-use Rattle.pc_caps.specs.declared.span.Span.{Span}
+use Rattle.std.specs.{declared.boxed.Box.Box, declared.alloc.Global.Global}
+use Rattle.pc_base.specs.declared.span.Span.{Span}
 use Rattle.pc_caps.specs.declared.capability.Cap.{Cap}
 use Rattle.pc_tree.specs.Tree as t
-use Rattle.pc_tree.specs.View.{expr_view, item_view, suffix_view, arm_view, seq_view, exprs_view, suffixes_view, arms_view, items_view, other_view}
-use Rattle.pc_tree.specs.declared.kinds.Op.{Op}
-use Rattle.pc_tree.specs.declared.written_names.Name.{Name}
-use Rattle.pc_tree.specs.declared.written_names.TypeRef.{TypeRef}
-use Rattle.pc_tree.specs.declared.expression.Expr.{Expr, the_lemmas}
+use Rattle.pc_tree.specs.{View.{expr_view, item_view, suffix_view, arm_view, seq_view, exprs_view, suffixes_view, arms_view, items_view, other_view}, declared.kinds.Op.Op, declared.written_names.Name.Name, declared.written_names.TypeRef.TypeRef, declared.expression.Expr.{Expr, the_lemmas}, declared.expression.Item.Item, declared.expression.Suffix.Suffix, declared.expression.Arm.{Arm, roll-Arm}, declared.expression.Seq.{Seq, roll-Seq}}
 use Rattle.pc_tree.specs.declared.expression.Expr.TheVariants as e
-use Rattle.pc_tree.specs.declared.expression.Item.{Item}
 use Rattle.pc_tree.specs.declared.expression.Item.TheVariants as i
-use Rattle.pc_tree.specs.declared.expression.Suffix.{Suffix}
 use Rattle.pc_tree.specs.declared.expression.Suffix.TheVariants as s
-use Rattle.pc_tree.specs.declared.expression.Arm.{Arm, roll-Arm}
-use Rattle.pc_tree.specs.declared.expression.Seq.{Seq, roll-Seq}
 
 pub view_number : (n : ℕ) (sp : Span) → expr_view (e.Number n sp) ≡ t.number n sp
 view_number n sp = search (rules, the_lemmas)

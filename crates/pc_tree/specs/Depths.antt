@@ -1,6 +1,5 @@
 -- How deep a tree is.
-use Rattle.std.specs.Prelude.{ℕ, suc, max, List, [], ◌∷◌}
-use Rattle.std.specs.Option.{option_map_or}
+use Rattle.std.specs.{Prelude.{ℕ, suc, max, List, [], ◌∷◌}, Option.option_map_or}
 use Rattle.pc_tree.specs.Tree as t
 
 -- The number of nested levels: a level is opened by the `(` of a group or of arguments, even if there are none, by

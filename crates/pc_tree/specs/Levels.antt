@@ -1,6 +1,5 @@
 -- The levels of the parts of a file.
-use Rattle.std.specs.Prelude.{ℕ, suc, max, List, Option}
-use Rattle.std.specs.Option.{option_map_or}
+use Rattle.std.specs.{Prelude.{ℕ, suc, max, List, Option}, Option.option_map_or}
 use Rattle.pc_tree.specs.Depths.{depth, seq_depth, highest}
 use Rattle.pc_tree.specs.Tree as t
 

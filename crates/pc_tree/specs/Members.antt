@@ -1,6 +1,6 @@
 -- What each kind of entity may contain, said of the parts of a tree.
 use Rattle.std.specs.Prelude.{List, Option}
-use Rattle.pc_tree.specs.{declared.kinds.EntityKind.EntityKind, Kinds.may_have_fields, Kinds.is_abstract, Kinds.FieldsIf, Kinds.BodyUnless}
+use Rattle.pc_tree.specs.{declared.kinds.EntityKind.EntityKind, Kinds.{may_have_fields, is_abstract, FieldsIf, BodyUnless}}
 use Rattle.pc_tree.specs.Tree as t
 
 abbrev pub MayHaveFields : EntityKind → List t.Field → Type 0

@@ -1,6 +1,6 @@
 -- Lists of the parts of a tree as the types that a tree has for them, and the spans of parts in the text.
 use Rattle.std.specs.Prelude.{List, [], ◌∷◌}
-use Rattle.pc_caps.specs.declared.span.Span.{Span}
+use Rattle.pc_base.specs.declared.span.Span.{Span}
 use Rattle.pc_tree.specs.Tree as t
 
 abbrev pub exprs_of : List t.Expr → t.Exprs

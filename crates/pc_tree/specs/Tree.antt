@@ -1,6 +1,7 @@
 -- The tree as plain data: no pointers, and a separate type for each kind of list of subtrees.
 use Rattle.std.specs.Prelude.{ℕ, List, Bool, Option}
-use Rattle.pc_caps.specs.{declared.span.Span.Span, declared.capability.Cap.Cap}
+use Rattle.pc_base.specs.declared.span.Span.{Span}
+use Rattle.pc_caps.specs.declared.capability.Cap.{Cap}
 use Rattle.pc_tree.specs.{declared.kinds.Op.Op, declared.kinds.EntityKind.EntityKind, declared.kinds.MethodWord.MethodWord, declared.written_names.Name.Name, declared.written_names.TypeRef.TypeRef, declared.file.ParamDef.ParamDef}
 
 mutual

@@ -1,7 +1,6 @@
 -- The tree of `specs/Tree.antt` that a value of the types represents.
-use Rattle.std.specs.Prelude.{List, map, Option, Some, None}
-use Rattle.std.specs.{declared.boxed.Box.Box, declared.alloc.Global.Global}
-use Rattle.pc_tree.specs.{declared.expression.Expr.Expr, declared.expression.Expr.fold-Expr, declared.expression.Expr.TheOpen.Expr-F, declared.expression.Expr.TheOpen.Item-F, declared.expression.Expr.TheOpen.Suffix-F, declared.expression.Expr.TheOpen.Arm-F, declared.expression.Expr.TheOpen.Seq-F, declared.expression.Item.Item, declared.expression.Item.fold-Item, declared.expression.Suffix.Suffix, declared.expression.Suffix.fold-Suffix, declared.expression.Arm.Arm, declared.expression.Arm.fold-Arm, declared.expression.Seq.Seq, declared.expression.Seq.fold-Seq, declared.file.FieldDef.FieldDef, declared.file.MethodDef.MethodDef, declared.file.Entity.Entity, declared.file.File.File, Parts.exprs_of, Parts.suffixes_of, Parts.arms_of, Parts.items_of}
+use Rattle.std.specs.{Prelude.{List, map, Option, Some, None}, declared.boxed.Box.Box, declared.alloc.Global.Global}
+use Rattle.pc_tree.specs.{declared.expression.Expr.{Expr, fold-Expr}, declared.expression.Expr.TheOpen.{Expr-F, Item-F, Suffix-F, Arm-F, Seq-F}, declared.expression.Item.{Item, fold-Item}, declared.expression.Suffix.{Suffix, fold-Suffix}, declared.expression.Arm.{Arm, fold-Arm}, declared.expression.Seq.{Seq, fold-Seq}, declared.file.FieldDef.FieldDef, declared.file.MethodDef.MethodDef, declared.file.Entity.Entity, declared.file.File.File, Parts.{exprs_of, suffixes_of, arms_of, items_of}}
 use Rattle.pc_tree.specs.Tree as t
 
 abbrev pub other_of : Option (Box t.Seq Global) → t.Other

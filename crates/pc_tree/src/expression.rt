@@ -1,7 +1,8 @@
 //! Trees of expressions and sequences.
 use crate::kinds::Op;
 use crate::written_names::{Name, TypeRef};
-use pc_caps::{Cap, List, SharedList, Span};
+use pc_base::{List, SharedList, Span};
+use pc_caps::Cap;
 
 /// A sequence: one or more items, of which the last gives the value.
 #[cycle(tree)]

@@ -2,7 +2,8 @@
 use crate::expression::{Expr, Seq};
 use crate::kinds::{EntityKind, MethodWord};
 use crate::written_names::{Name, TypeRef};
-use pc_caps::{Cap, List};
+use pc_base::List;
+use pc_caps::Cap;
 
 /// The tree of a whole source text.
 #[derive(Debug, Drop)]

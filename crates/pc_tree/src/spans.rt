@@ -4,7 +4,7 @@ ghost use Rattle.pc_tree.specs.Tree as spec;
 ghost use Rattle.pc_tree.specs.View.{expr_view};
 
 use crate::expression::Expr;
-use pc_caps::Span;
+use pc_base::Span;
 
 /// From the start of the first to the end of the second.
 pub fn join(first: Span, second: Span) -> Span

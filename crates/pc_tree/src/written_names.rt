@@ -1,5 +1,6 @@
 //! Names and written types, with their spans.
-use pc_caps::{Cap, ShortBytes, Span};
+use pc_base::{ShortBytes, Span};
+use pc_caps::Cap;
 
 /// A name or a type name, as it is written.
 #[derive(Debug, Drop)]

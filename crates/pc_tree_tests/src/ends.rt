@@ -2,7 +2,7 @@
 ghost use Rattle.std.specs.Prelude.{IfOk};
 ghost use Rattle.pc_expr.specs.Gives.{EndsWithEnd};
 
-use pc_caps::{List, Span};
+use pc_base::{List, Span};
 use pc_lex::{Token, TokenKind};
 use pc_parse::{ParseFault, file};
 use pc_test_inputs::{Wrong, tokens_of};

@@ -1,5 +1,5 @@
 //! A tree as a list of rows, each part before what it contains.
-use pc_caps::Span;
+use pc_base::Span;
 use pc_tree::{Arm, Expr, Item, Op, Seq, Suffix, span_of};
 
 /// A part of a tree: what it is, and where it begins and ends.

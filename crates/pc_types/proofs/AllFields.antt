@@ -1,22 +1,13 @@
 -- An object with all its fields.
 use Rattle.std.specs.Prelude.{◌≡◌, ℕ, ◌<◌, ◌≤◌, length, Some, slice_get}
-use Rattle.std.proofs.Common.{ap, sym, ◌∙◌, arith}
-use Rattle.std.proofs.lemmas.Option.{same_Some}
-use Rattle.pc_heap.specs.Objects.{ObjectMap}
-use Rattle.pc_heap.specs.declared.value.Value.{Value}
-use Rattle.pc_heap.specs.declared.value.Value.TheVariants.{Num, Truth, Text, Prim, At}
+use Rattle.std.proofs.{Common.{ap, sym, ◌∙◌, arith}, lemmas.Option.same_Some}
+use Rattle.pc_heap.specs.{Objects.ObjectMap, declared.value.Value.Value, declared.value.Value.TheVariants.{Num, Truth, Text, Prim, At}}
 use Rattle.pc_core.specs.CoreData.{CoreData}
-use Rattle.pc_masks.specs.declared.mask.Mask.{Mask}
+use Rattle.pc_masks.specs.{declared.mask.Mask.Mask, MaskLaws.first_bits}
 use Rattle.pc_ann.specs.declared.annotation.Ann.{Ann}
-use Rattle.pc_masks.specs.MaskLaws.{first_bits}
 use Rattle.pc_semantics.specs.Configurations.{value_entity}
 use Rattle.pc_rules.specs.Parts.{fields_in, field_count, all_fields}
-use Rattle.pc_types.proofs.Types.{Finished}
-use Rattle.pc_types.proofs.Tasks.{Within}
-use Rattle.pc_types.proofs.Frames.{HasFields}
-use Rattle.pc_types.proofs.Typed.{ObjectsOk}
-use Rattle.pc_types.proofs.Needs.{Needs}
-use Rattle.pc_types.proofs.Growth.{class_is}
+use Rattle.pc_types.proofs.{Types.Finished, Tasks.Within, Frames.HasFields, Typed.ObjectsOk, Needs.Needs, Growth.class_is}
 
 within_sixty_four : (i n m k : ℕ) → i < n → n ≡ m → k ≡ m → m ≤ 64 → (i < k) × (i < 64)
 within_sixty_four i n m k l e g few = (omega (arith, l, e, g), omega (arith, l, e, few))

@@ -1,17 +1,7 @@
 -- Each task preserves what it has to.
 use Rattle.pc_semantics.specs.declared.frames.Task.{Task}
 use Rattle.pc_semantics.specs.declared.frames.Task.TheVariants as task
-use Rattle.pc_types.proofs.Steps.{Keeps}
-use Rattle.pc_types.proofs.EvalTask.{keeps_eval}
-use Rattle.pc_types.proofs.GetTask.{keeps_get}
-use Rattle.pc_types.proofs.PutTask.{keeps_put}
-use Rattle.pc_types.proofs.StoreTask.{keeps_store}
-use Rattle.pc_types.proofs.MakeTask.{keeps_make}
-use Rattle.pc_types.proofs.SpawnTask.{keeps_spawn}
-use Rattle.pc_types.proofs.InvokeTask.{keeps_invoke}
-use Rattle.pc_types.proofs.ApplyTask.{keeps_apply}
-use Rattle.pc_types.proofs.Choose.{keeps_test, keeps_branch, keeps_loop, keeps_discard}
-use Rattle.pc_types.proofs.ReturnTask.{keeps_return}
+use Rattle.pc_types.proofs.{Steps.Keeps, EvalTask.keeps_eval, GetTask.keeps_get, PutTask.keeps_put, StoreTask.keeps_store, MakeTask.keeps_make, SpawnTask.keeps_spawn, InvokeTask.keeps_invoke, ApplyTask.keeps_apply, Choose.{keeps_test, keeps_branch, keeps_loop, keeps_discard}, ReturnTask.keeps_return}
 
 pub keeps : (t : Task) → Keeps t
 keeps (task.Eval n) = keeps_eval n

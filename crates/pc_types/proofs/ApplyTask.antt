@@ -1,45 +1,22 @@
 -- The task Apply: operators, `not`, `is` and `isnt`.
 use Rattle.std.specs.Prelude.{◌≡◌, ℕ, Bool, true, false, not, ◌&&◌, ◌||◌, cond, List, [], ◌∷◌, ◌++◌, length, Option, Some, None, nat_lt, refl}
-use Rattle.std.proofs.Common.{inl, inr, ap, sym, subst, ◌∙◌}
-use Rattle.std.proofs.lemmas.Option.{same_Some, none-some}
-use Rattle.std.proofs.lemmas.Bool.{and_parts, or_cases}
-use Rattle.pc_heap.specs.declared.value.Value.{Value}
-use Rattle.pc_heap.specs.declared.value.Value.TheVariants.{Num, Truth, Text, At}
+use Rattle.std.proofs.{Common.{inl, inr, ap, sym, subst, ◌∙◌}, lemmas.Option.{same_Some, none-some}, lemmas.Bool.{and_parts, or_cases}}
+use Rattle.pc_heap.specs.{declared.value.Value.Value, declared.value.Value.TheVariants.{Num, Truth, Text, At}}
 use Rattle.pc_caps.specs.declared.capability.Form.TheVariants as form
 use Rattle.pc_tree.specs.declared.kinds.Op.{Op}
 use Rattle.pc_tree.specs.declared.kinds.Op.TheVariants as op
-use Rattle.pc_core.specs.declared.nodes.Node.{Node}
-use Rattle.pc_core.specs.declared.nodes.NodeKind.{NodeKind}
+use Rattle.pc_core.specs.{declared.nodes.Node.Node, declared.nodes.NodeKind.NodeKind, CoreData.CoreData}
 use Rattle.pc_core.specs.declared.nodes.NodeKind.TheVariants as nodes
-use Rattle.pc_core.specs.CoreData.{CoreData}
-use Rattle.pc_lists.specs.Lists.{◌>>=◌}
-use Rattle.pc_lists.proofs.Options.{bind_some, kept}
-use Rattle.pc_ann.specs.declared.annotation.Note.{Note}
-use Rattle.pc_ann.specs.declared.annotation.Ann.{Ann}
-use Rattle.pc_ann.specs.declared.annotation.Rule.{Rule}
+use Rattle.pc_base.specs.{Lists.◌>>=◌, Limits.text_limit}
+use Rattle.pc_base.proofs.{Options.{bind_some, kept}, Bools.false_true}
+use Rattle.pc_ann.specs.{declared.annotation.Note.Note, declared.annotation.Ann.Ann, declared.annotation.Rule.Rule}
 use Rattle.pc_ann.specs.declared.annotation.Rule.TheVariants as rule
-use Rattle.pc_semantics.specs.declared.frames.Frame.{Frame}
+use Rattle.pc_semantics.specs.{declared.frames.Frame.Frame, Configurations.{Around, Move, Overflows, Goes, with_stack, pushed}, Parts.{push_or_lack, joined_text, with_second_number, with_truth, with_text, negated, compared}, Evaluation.{of_numbers, of_truths, of_texts, binary, same_truth, same_value, apply_task}}
 use Rattle.pc_semantics.specs.declared.frames.Task.TheVariants as task
-use Rattle.pc_semantics.specs.Configurations.{Around, Move, Overflows, Goes, with_stack, pushed}
-use Rattle.pc_semantics.specs.Parts.{push_or_lack, joined_text, with_second_number, with_truth, with_text, negated, compared}
-use Rattle.pc_semantics.specs.Evaluation.{of_numbers, of_truths, of_texts, binary, same_truth, same_value, apply_task}
-use Rattle.pc_caps.specs.Limits.{text_limit}
-use Rattle.pc_rules.specs.Parts.{reads_as, through, type_of, one_child}
+use Rattle.pc_rules.specs.{Parts.{reads_as, through, type_of, one_child}, Fields.is_this, Operators.{is_arithmetic, is_comparison, is_equality, is_add, is_xor, both_read_as, comparable}, Rules.said_by}
 use Rattle.pc_valid.specs.Words.{Ty, Masks, before}
-use Rattle.pc_rules.specs.Fields.{is_this}
-use Rattle.pc_rules.specs.Operators.{is_arithmetic, is_comparison, is_equality, is_add, is_xor, both_read_as, comparable}
-use Rattle.pc_rules.specs.Rules.{said_by}
 use Rattle.pc_rules.proofs.ByNumber.{two_types, value_says, not_says, identity_says, says}
-use Rattle.pc_lists.proofs.Bools.{false_true}
-use Rattle.pc_types.proofs.Types.{OfType, OfSome, StackOk}
-use Rattle.pc_types.proofs.Tasks.{applies, FinishOk, TasksOk}
-use Rattle.pc_types.proofs.Moves.{MoveOk, Runs}
-use Rattle.pc_types.proofs.Needs.{Needs}
-use Rattle.pc_types.proofs.Values.{is_number, is_truth, is_text}
-use Rattle.pc_types.proofs.Steps.{Keeps}
-use Rattle.pc_types.proofs.Begin.{only_one}
-use Rattle.pc_types.proofs.Inverse.{TwoTypes, types_are, Says, says_is, read_is}
-use Rattle.pc_types.proofs.Finish.{one_top, two_tops, done_ok, rule_is, at_this, read_at, at_top, at_tops}
+use Rattle.pc_types.proofs.{Types.{OfType, OfSome, StackOk}, Tasks.{applies, FinishOk, TasksOk}, Moves.{MoveOk, Runs}, Needs.Needs, Values.{is_number, is_truth, is_text}, Steps.Keeps, Begin.only_one, Inverse.{TwoTypes, types_are, Says, says_is, read_is}, Finish.{one_top, two_tops, done_ok, rule_is, at_this, read_at, at_top, at_tops}}
 
 -- ---- what operators give
 

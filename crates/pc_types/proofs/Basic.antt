@@ -1,18 +1,14 @@
 -- Masks and types, and what is preserved when more slots are live and more fields are set.
 use Rattle.std.specs.Prelude.{ℕ, Bool, List, [], ◌∷◌, Option, Some, None, refl}
 use Rattle.std.proofs.Common.{inl, inr}
-use Rattle.pc_heap.specs.Objects.{ObjectMap}
-use Rattle.pc_heap.specs.declared.value.Value.{Value}
-use Rattle.pc_core.specs.CoreData.{CoreData}
+use Rattle.pc_heap.specs.{Objects.ObjectMap, declared.value.Value.Value}
+use Rattle.pc_core.specs.{CoreData.CoreData, declared.nodes.NodeKind.NodeKind}
 use Rattle.pc_masks.specs.declared.mask.Mask.{Mask}
 use Rattle.pc_ann.specs.declared.annotation.Ann.{Ann}
 use Rattle.pc_semantics.specs.declared.frames.Task.{Task}
 use Rattle.pc_semantics.specs.declared.frames.Task.TheVariants as task
-use Rattle.pc_core.specs.declared.nodes.NodeKind.{NodeKind}
 use Rattle.pc_valid.specs.Words.{Ty}
-use Rattle.pc_types.proofs.Types.{OfType, OfSome, LowerType, Lower, Want}
-use Rattle.pc_types.proofs.Tasks.{Within, EvalOk, BodyOk, FinishOk, TestOk, BranchOk, LoopOk, ReturnOk, TasksOk}
-use Rattle.pc_types.proofs.Needs.{Needs}
+use Rattle.pc_types.proofs.{Types.{OfType, OfSome, LowerType, Lower, Want}, Tasks.{Within, EvalOk, BodyOk, FinishOk, TestOk, BranchOk, LoopOk, ReturnOk, TasksOk}, Needs.Needs}
 
 -- ---- masks
 

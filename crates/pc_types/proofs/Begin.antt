@@ -1,36 +1,17 @@
 -- The frame of a method that begins can go on.
 use Rattle.std.specs.Prelude.{◌≡◌, ◌≢◌, ℕ, zero, suc, ◌+◌, ◌-◌, ◌<◌, ◌≤◌, true, ◌&&◌, List, [], ◌∷◌, ◌++◌, map, length, replicate, Option, Some, None, slice_get, refl}
-use Rattle.std.proofs.Common.{inr, ap, sym, subst, ◌∙◌, arith, length-append}
-use Rattle.std.proofs.lemmas.Option.{same_Some, none-some}
-use Rattle.std.proofs.lemmas.Bool.{and_parts}
-use Rattle.std.proofs.lemmas.List.{length-map, length-replicate}
-use Rattle.pc_heap.specs.Objects.{ObjectMap}
-use Rattle.pc_heap.specs.declared.value.Value.{Value}
-use Rattle.pc_core.specs.declared.declarations.Method.{Method}
-use Rattle.pc_core.specs.declared.declarations.ParamInfo.{ParamInfo}
-use Rattle.pc_core.specs.declared.nodes.Node.{Node}
-use Rattle.pc_core.specs.declared.nodes.NodeKind.{NodeKind}
+use Rattle.std.proofs.{Common.{inr, ap, sym, subst, ◌∙◌, arith, length-append}, lemmas.Option.{same_Some, none-some}, lemmas.Bool.and_parts, lemmas.List.{length-map, length-replicate}}
+use Rattle.pc_heap.specs.{Objects.ObjectMap, declared.value.Value.Value}
+use Rattle.pc_core.specs.{declared.declarations.Method.Method, declared.declarations.ParamInfo.ParamInfo, declared.nodes.Node.Node, declared.nodes.NodeKind.NodeKind, CoreData.CoreData}
 use Rattle.pc_core.specs.declared.nodes.NodeKind.TheVariants as nodes
-use Rattle.pc_core.specs.CoreData.{CoreData}
-use Rattle.pc_lists.proofs.Options.{bind_some, kept}
-use Rattle.pc_ann.specs.declared.annotation.Note.{Note}
-use Rattle.pc_ann.specs.declared.annotation.Ann.{Ann}
-use Rattle.pc_masks.specs.Masks.{first, same}
-use Rattle.pc_masks.specs.MaskLaws.{first_bits}
-use Rattle.pc_semantics.specs.Parts.{first_slots}
-use Rattle.pc_semantics.specs.Configurations.{first_frame}
-use Rattle.pc_rules.specs.declared.said.Said.{Said}
-use Rattle.pc_rules.specs.Parts.{through, one_child}
+use Rattle.pc_base.proofs.Options.{bind_some, kept}
+use Rattle.pc_ann.specs.{declared.annotation.Note.Note, declared.annotation.Ann.Ann}
+use Rattle.pc_masks.specs.{Masks.{first, same}, MaskLaws.first_bits}
+use Rattle.pc_semantics.specs.{Parts.first_slots, Configurations.first_frame}
+use Rattle.pc_rules.specs.{declared.said.Said.Said, Parts.{through, one_child}, Control.{start_set, starts_method, result_ok}, Rules.said_by}
 use Rattle.pc_valid.specs.Words.{Masks, before}
-use Rattle.pc_rules.specs.Control.{start_set, starts_method, result_ok}
-use Rattle.pc_rules.specs.Rules.{said_by}
-use Rattle.pc_rules.proofs.ByNumber.{body_says, says}
-use Rattle.pc_rules.proofs.OneRule.{body_rule}
-use Rattle.pc_types.proofs.Types.{OfType, ArgumentsOk, param_type}
-use Rattle.pc_types.proofs.Tasks.{BodyOk}
-use Rattle.pc_types.proofs.Frames.{ThisOk, SlotsOk, Held, FrameOk}
-use Rattle.pc_types.proofs.Needs.{Needs}
-use Rattle.pc_types.proofs.Notes.{note_at, same_within}
+use Rattle.pc_rules.proofs.{ByNumber.{body_says, says}, OneRule.body_rule}
+use Rattle.pc_types.proofs.{Types.{OfType, ArgumentsOk, param_type}, Tasks.BodyOk, Frames.{ThisOk, SlotsOk, Held, FrameOk}, Needs.Needs, Notes.{note_at, same_within}}
 
 -- ---- arguments
 

@@ -1,50 +1,20 @@
 -- What a call leaves behind: the frame that waits for the method's value, and an object that begins.
-use Rattle.std.specs.Prelude.{◌≡◌, ◌≢◌, ℕ, Bool, true, false, List, [], ◌∷◌, Option, Some, slice_get, nat_eq, length, refl}
-use Rattle.std.proofs.Common.{inl, inr, ap, sym, subst, ◌∙◌, arith}
-use Rattle.std.proofs.lemmas.Option.{same_Some}
-use Rattle.std.proofs.lemmas.Bool.{eq-eqb}
-use Rattle.std.specs.FinMap.{insert}
-use Rattle.pc_heap.specs.Objects.{ObjectMap, Object}
-use Rattle.pc_heap.specs.declared.value.Address.{Address}
-use Rattle.pc_heap.specs.declared.value.Value.{Value}
-use Rattle.pc_heap.specs.declared.value.Value.TheVariants.{At}
-use Rattle.pc_tree.specs.declared.kinds.EntityKind.{EntityKind}
+use Rattle.std.specs.{Prelude.{◌≡◌, ◌≢◌, ℕ, Bool, true, false, List, [], ◌∷◌, Option, Some, slice_get, nat_eq, length, refl}, FinMap.insert}
+use Rattle.std.proofs.{Common.{inl, inr, ap, sym, subst, ◌∙◌, arith}, lemmas.Option.same_Some, lemmas.Bool.eq-eqb}
+use Rattle.pc_heap.specs.{Objects.{ObjectMap, Object}, declared.value.Address.Address, declared.value.Value.Value, declared.value.Value.TheVariants.At}
+use Rattle.pc_tree.specs.{declared.kinds.EntityKind.EntityKind, declared.kinds.MethodWord.MethodWord, Kinds.{is_abstract, may_have_fields, may_stand}}
 use Rattle.pc_tree.specs.declared.kinds.EntityKind.TheVariants as kind
-use Rattle.pc_tree.specs.declared.kinds.MethodWord.{MethodWord}
 use Rattle.pc_tree.specs.declared.kinds.MethodWord.TheVariants as word
-use Rattle.pc_tree.specs.Kinds.{is_abstract, may_have_fields, may_stand}
 use Rattle.pc_tree.proofs.KindFacts.{created}
-use Rattle.pc_core.specs.declared.declarations.EntityDef.{EntityDef}
-use Rattle.pc_core.specs.declared.declarations.Method.{Method}
-use Rattle.pc_core.specs.declared.declarations.MethodKind.{MethodKind}
+use Rattle.pc_core.specs.{declared.declarations.EntityDef.EntityDef, declared.declarations.Method.Method, declared.declarations.MethodKind.MethodKind, declared.declarations.ParamInfo.ParamInfo, declared.nodes.Node.Node, CoreData.CoreData, Methods.StandsIn, Entities.{constructor_kind, word_kind}}
 use Rattle.pc_core.specs.declared.declarations.MethodKind.TheVariants as method
-use Rattle.pc_core.specs.declared.declarations.ParamInfo.{ParamInfo}
-use Rattle.pc_core.specs.declared.nodes.Node.{Node}
-use Rattle.pc_core.specs.CoreData.{CoreData}
-use Rattle.pc_core.specs.Methods.{StandsIn}
-use Rattle.pc_core.specs.Entities.{constructor_kind, word_kind}
-use Rattle.pc_masks.specs.declared.mask.Mask.{Mask}
-use Rattle.pc_ann.specs.declared.annotation.Note.{Note}
-use Rattle.pc_ann.specs.declared.annotation.Ann.{Ann}
-use Rattle.pc_masks.specs.Masks.{IsInMask, empty}
-use Rattle.pc_masks.specs.MaskLaws.{first_bits}
-use Rattle.pc_semantics.specs.declared.frames.Frame.{Frame}
-use Rattle.pc_semantics.specs.Configurations.{blank_object, Around, with_stack}
-use Rattle.pc_rules.specs.Parts.{constructs}
+use Rattle.pc_masks.specs.{declared.mask.Mask.Mask, Masks.{IsInMask, empty}, MaskLaws.first_bits}
+use Rattle.pc_ann.specs.{declared.annotation.Note.Note, declared.annotation.Ann.Ann}
+use Rattle.pc_semantics.specs.{declared.frames.Frame.Frame, Configurations.{blank_object, Around, with_stack}}
+use Rattle.pc_rules.specs.{Parts.constructs, Control.start_set, Fields.is_this}
 use Rattle.pc_valid.specs.Words.{Masks}
-use Rattle.pc_rules.specs.Control.{start_set}
-use Rattle.pc_rules.specs.Fields.{is_this}
-use Rattle.pc_lists.proofs.Bools.{false_true}
-use Rattle.pc_types.proofs.Types.{Lower, ArgumentsOk, Want, wanted, StackOk}
-use Rattle.pc_types.proofs.Tasks.{Within, Follows, TasksOk}
-use Rattle.pc_types.proofs.Frames.{ThisOk, FrameOk, leaves, WaitOk}
-use Rattle.pc_types.proofs.Moves.{Runs}
-use Rattle.pc_types.proofs.Needs.{Needs}
-use Rattle.pc_types.proofs.Basic.{within_trans, trans_lower}
-use Rattle.pc_types.proofs.Begin.{arguments_length}
-use Rattle.pc_types.proofs.Growth.{class_is}
-use Rattle.pc_types.proofs.Heaps.{get_here}
-use Rattle.pc_types.proofs.Running.{fewer_slots, fewer_set, frame_in}
+use Rattle.pc_base.proofs.Bools.{false_true}
+use Rattle.pc_types.proofs.{Types.{Lower, ArgumentsOk, Want, wanted, StackOk}, Tasks.{Within, Follows, TasksOk}, Frames.{ThisOk, FrameOk, leaves, WaitOk}, Moves.Runs, Needs.Needs, Basic.{within_trans, trans_lower}, Begin.arguments_length, Growth.class_is, Heaps.get_here, Running.{fewer_slots, fewer_set, frame_in}}
 
 -- ---- masks after a call
 

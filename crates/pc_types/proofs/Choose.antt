@@ -1,32 +1,17 @@
 -- Test, Branch, Loop and Discard.
 use Rattle.std.specs.Prelude.{◌≡◌, ℕ, Bool, true, false, List, [], ◌∷◌, length, Option, Some, slice_get, refl}
 use Rattle.std.proofs.Common.{inl, ap, sym, subst, ◌∙◌, arith}
-use Rattle.pc_heap.specs.declared.value.Value.{Value}
-use Rattle.pc_heap.specs.declared.value.Value.TheVariants.{Truth}
+use Rattle.pc_heap.specs.{declared.value.Value.Value, declared.value.Value.TheVariants.Truth}
 use Rattle.pc_caps.specs.declared.capability.Form.TheVariants as form
-use Rattle.pc_core.specs.declared.nodes.Node.{Node}
-use Rattle.pc_core.specs.declared.nodes.NodeKind.{NodeKind}
+use Rattle.pc_core.specs.{declared.nodes.Node.Node, declared.nodes.NodeKind.NodeKind, CoreData.CoreData, Nodes.HasArity}
 use Rattle.pc_core.specs.declared.nodes.NodeKind.TheVariants as nodes
-use Rattle.pc_core.specs.CoreData.{CoreData}
-use Rattle.pc_core.specs.Nodes.{HasArity}
 use Rattle.pc_ann.specs.declared.annotation.Ann.{Ann}
-use Rattle.pc_semantics.specs.declared.frames.Frame.{Frame}
-use Rattle.pc_semantics.specs.declared.frames.Task.{Task}
+use Rattle.pc_semantics.specs.{declared.frames.Frame.Frame, declared.frames.Task.Task, Configurations.{Around, Move, Goes, with_stack, pushed, none}, Parts.{with_top, at_node, branch_task, loop_task}, Evaluation.{truth, right_side, test_and, test_or, test_task, branch, loop_turn}}
 use Rattle.pc_semantics.specs.declared.frames.Task.TheVariants as task
-use Rattle.pc_semantics.specs.Configurations.{Around, Move, Goes, with_stack, pushed, none}
-use Rattle.pc_semantics.specs.Parts.{with_top, at_node, branch_task, loop_task}
-use Rattle.pc_semantics.specs.Evaluation.{truth, right_side, test_and, test_or, test_task, branch, loop_turn}
 use Rattle.pc_valid.specs.Words.{Ty}
 use Rattle.pc_rules.specs.Fields.{is_this}
-use Rattle.pc_lists.proofs.Bools.{false_true}
-use Rattle.pc_types.proofs.Types.{OfType, OfSome, Want, wanted, StackOk}
-use Rattle.pc_types.proofs.Tasks.{TruthOnTop, is_lazy, TestOk, BranchOk, LoopOk, DiscardOk, EvalOk, TasksOk}
-use Rattle.pc_types.proofs.Frames.{FramesOk}
-use Rattle.pc_types.proofs.Moves.{MoveOk, Runs}
-use Rattle.pc_types.proofs.Needs.{Needs}
-use Rattle.pc_types.proofs.Steps.{Keeps}
-use Rattle.pc_types.proofs.Values.{top_is, is_truth}
-use Rattle.pc_types.proofs.Running.{go_ok, push_ok}
+use Rattle.pc_base.proofs.Bools.{false_true}
+use Rattle.pc_types.proofs.{Types.{OfType, OfSome, Want, wanted, StackOk}, Tasks.{TruthOnTop, is_lazy, TestOk, BranchOk, LoopOk, DiscardOk, EvalOk, TasksOk}, Frames.FramesOk, Moves.{MoveOk, Runs}, Needs.Needs, Steps.Keeps, Values.{top_is, is_truth}, Running.{go_ok, push_ok}}
 
 module _ (core : CoreData) (ann : Ann) (needs : Needs core ann) (around : Around) (f : Frame) (fs : List Frame) (r : Runs core ann around f fs) where
   -- The truth value on top of the stack, and what is below it.

@@ -1,29 +1,14 @@
 -- The order of entities, what an entity is under, and what it has for the methods of those entities.
 use Rattle.std.specs.Prelude.{◌≡◌, ℕ, ◌+◌, ◌-◌, ◌<◌, ◌≤◌, ◌++◌, true, false, length, map, Option, Some, None, slice_get, refl}
-use Rattle.std.proofs.Common.{inl, inr, ap, sym, subst, ◌∙◌, arith}
-use Rattle.std.proofs.lemmas.Option.{same_Some}
-use Rattle.pc_caps.specs.Tables.{IsBelow, same, step}
-use Rattle.pc_lists.proofs.Gets.{get_below, get_within, get_append, get_map, get_range, range_get}
-use Rattle.pc_caps.specs.declared.capability.Form.{Form}
-use Rattle.pc_tree.specs.declared.kinds.EntityKind.{EntityKind}
+use Rattle.std.proofs.{Common.{inl, inr, ap, sym, subst, ◌∙◌, arith}, lemmas.Option.same_Some}
+use Rattle.pc_caps.specs.{Tables.{IsBelow, same, step}, declared.capability.Form.Form}
+use Rattle.pc_base.proofs.{Gets.{get_below, get_within, get_append, get_map, get_range, range_get}, Bools.false_true, Options.bind_some, Lookup.place_found}
+use Rattle.pc_tree.specs.{declared.kinds.EntityKind.EntityKind, Kinds.is_abstract}
 use Rattle.pc_tree.specs.declared.kinds.EntityKind.TheVariants as kind
-use Rattle.pc_tree.specs.Kinds.{is_abstract}
-use Rattle.pc_core.specs.declared.declarations.EntityDef.{EntityDef}
-use Rattle.pc_core.specs.declared.declarations.Method.{Method}
-use Rattle.pc_core.specs.declared.declarations.ParamInfo.{ParamInfo}
-use Rattle.pc_core.specs.CoreData.{CoreData, own_methods, method_named, IsMethod}
-use Rattle.pc_core.specs.Parts.{field_name, method_name}
-use Rattle.pc_lists.specs.Lists.{Has, place_of}
-use Rattle.pc_core.specs.Further.{IsAbstract}
-use Rattle.pc_core.specs.Entities.{Provides, Leads, one, more, Chain, ParamFits, StandsFor, HasFor, Conforms}
-use Rattle.pc_core.specs.Members.{method_among, method_found, method_missed}
-use Rattle.pc_lists.proofs.Bools.{false_true}
-use Rattle.pc_lists.proofs.Options.{bind_some}
-use Rattle.pc_lists.proofs.Lookup.{place_found}
-use Rattle.pc_core.specs.Formed.{Formed}
+use Rattle.pc_core.specs.{declared.declarations.EntityDef.EntityDef, declared.declarations.Method.Method, declared.declarations.ParamInfo.ParamInfo, CoreData.{CoreData, own_methods, method_named, IsMethod}, Parts.{field_name, method_name}, Further.IsAbstract, Entities.{Provides, Leads, one, more, Chain, ParamFits, StandsFor, HasFor, Conforms}, Members.{method_among, method_found, method_missed}, Formed.Formed}
+use Rattle.pc_base.specs.Lists.{Has, place_of}
 use Rattle.pc_sub.specs.Declarations.{Sub, IsInterface, is_structural, DeclOk}
-use Rattle.pc_types.proofs.Under.{Under}
-use Rattle.pc_types.proofs.Needs.{Declared}
+use Rattle.pc_types.proofs.{Under.Under, Needs.Declared}
 
 -- ---- chains
 

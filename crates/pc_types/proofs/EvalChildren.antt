@@ -1,30 +1,18 @@
 -- Children that are evaluated, one after another, and what they leave.
 use Rattle.std.specs.Prelude.{◌≡◌, ℕ, suc, ◌-◌, true, List, [], ◌∷◌, ◌++◌, length, Option, Some, None, slice_get, refl}
-use Rattle.std.proofs.Common.{inl, ap, sym, subst, ◌∙◌, arith}
-use Rattle.std.proofs.lemmas.Option.{same_Some, none-some}
-use Rattle.pc_core.specs.declared.nodes.Node.{Node}
-use Rattle.pc_core.specs.declared.nodes.NodeKind.{NodeKind}
+use Rattle.std.proofs.{Common.{inl, ap, sym, subst, ◌∙◌, arith}, lemmas.Option.{same_Some, none-some}}
+use Rattle.pc_core.specs.{declared.nodes.Node.Node, declared.nodes.NodeKind.NodeKind, CoreData.CoreData}
 use Rattle.pc_core.specs.declared.nodes.NodeKind.TheVariants as nodes
-use Rattle.pc_core.specs.CoreData.{CoreData}
-use Rattle.pc_lists.specs.Lists.{Each}
-use Rattle.pc_lists.proofs.Options.{bind_some, kept, bind_is}
-use Rattle.pc_masks.specs.declared.mask.Mask.{Mask}
-use Rattle.pc_ann.specs.declared.annotation.Note.{Note}
-use Rattle.pc_ann.specs.declared.annotation.Ann.{Ann}
-use Rattle.pc_masks.specs.Masks.{IsInMask}
-use Rattle.pc_masks.specs.MaskLaws.{without_number_bits}
-use Rattle.pc_semantics.specs.declared.frames.Task.{Task}
+use Rattle.pc_base.specs.Lists.{Each}
+use Rattle.pc_base.proofs.Options.{bind_some, kept, bind_is}
+use Rattle.pc_masks.specs.{declared.mask.Mask.Mask, Masks.IsInMask, MaskLaws.without_number_bits}
+use Rattle.pc_ann.specs.{declared.annotation.Note.Note, declared.annotation.Ann.Ann}
+use Rattle.pc_semantics.specs.{declared.frames.Task.Task, Children.evaluations, Evaluation.item_tasks}
 use Rattle.pc_semantics.specs.declared.frames.Task.TheVariants as task
-use Rattle.pc_semantics.specs.Children.{evaluations}
-use Rattle.pc_semantics.specs.Evaluation.{item_tasks}
-use Rattle.pc_rules.specs.Parts.{starts, through, type_of, last_child}
+use Rattle.pc_rules.specs.{Parts.{starts, through, type_of, last_child}, Control.{without_definition, without_item, without_items}}
 use Rattle.pc_valid.specs.Words.{Ty, Masks, before, masks_after}
-use Rattle.pc_rules.specs.Control.{without_definition, without_item, without_items}
 use Rattle.pc_rules.proofs.Threads.{starts_so}
-use Rattle.pc_types.proofs.Types.{Lower, Want}
-use Rattle.pc_types.proofs.Tasks.{Within, gives_this, want_of, stacked, EvalOk, TasksOk}
-use Rattle.pc_types.proofs.Needs.{IsChild}
-use Rattle.pc_types.proofs.Basic.{within_same, within_trans, same_lower}
+use Rattle.pc_types.proofs.{Types.{Lower, Want}, Tasks.{Within, gives_this, want_of, stacked, EvalOk, TasksOk}, Needs.IsChild, Basic.{within_same, within_trans, same_lower}}
 
 -- ---- masks
 

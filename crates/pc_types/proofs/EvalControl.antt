@@ -1,53 +1,24 @@
 -- Eval at nodes that look at what they evaluate: `and`, `or`, `if`, `while`, sequences, recover and bodies; and at
 -- nodes whose children are all evaluated first.
 use Rattle.std.specs.Prelude.{◌≡◌, ℕ, Bool, true, false, cond, List, [], ◌∷◌, ◌++◌, Option, Some, None, slice_get, refl}
-use Rattle.std.proofs.Common.{inl, ap, sym, subst, ◌∙◌, append_assoc}
-use Rattle.std.proofs.lemmas.Option.{same_Some}
-use Rattle.std.proofs.lemmas.Bool.{and_parts}
-use Rattle.pc_lists.proofs.Gets.{get_below}
-use Rattle.pc_caps.specs.Computed.{is_below}
-use Rattle.pc_caps.specs.declared.capability.Cap.{Cap}
+use Rattle.std.proofs.{Common.{inl, ap, sym, subst, ◌∙◌, append_assoc}, lemmas.Option.same_Some, lemmas.Bool.and_parts}
+use Rattle.pc_base.proofs.{Gets.get_below, Bools.false_true}
+use Rattle.pc_caps.specs.{Computed.is_below, declared.capability.Cap.Cap}
 use Rattle.pc_caps.specs.declared.capability.Form.TheVariants as form
-use Rattle.pc_core.specs.declared.declarations.Method.{Method}
-use Rattle.pc_core.specs.declared.declarations.MethodKind.{MethodKind}
+use Rattle.pc_core.specs.{declared.declarations.Method.Method, declared.declarations.MethodKind.MethodKind, declared.nodes.Node.Node, declared.nodes.NodeKind.NodeKind, CoreData.CoreData}
 use Rattle.pc_core.specs.declared.declarations.MethodKind.TheVariants as method
-use Rattle.pc_core.specs.declared.nodes.Node.{Node}
-use Rattle.pc_core.specs.declared.nodes.NodeKind.{NodeKind}
 use Rattle.pc_core.specs.declared.nodes.NodeKind.TheVariants as nodes
-use Rattle.pc_core.specs.CoreData.{CoreData}
-use Rattle.pc_lists.specs.Lists.{Each}
-use Rattle.pc_ann.specs.declared.annotation.Note.{Note}
-use Rattle.pc_ann.specs.declared.annotation.Ann.{Ann}
-use Rattle.pc_masks.specs.Masks.{meet}
-use Rattle.pc_masks.specs.MaskLaws.{meet_bits, within_bits}
+use Rattle.pc_base.specs.Lists.{Each}
+use Rattle.pc_ann.specs.{declared.annotation.Note.Note, declared.annotation.Ann.Ann}
+use Rattle.pc_masks.specs.{Masks.meet, MaskLaws.{meet_bits, within_bits}}
 use Rattle.pc_sub.specs.Computed.{is_sub}
-use Rattle.pc_semantics.specs.declared.frames.Frame.{Frame}
-use Rattle.pc_semantics.specs.declared.frames.Task.{Task}
+use Rattle.pc_semantics.specs.{declared.frames.Frame.Frame, declared.frames.Task.Task, Configurations.{Around, Goes, doing}, Children.evaluations, Evaluation.{children_first, first_then, item_tasks}}
 use Rattle.pc_semantics.specs.declared.frames.Task.TheVariants as task
-use Rattle.pc_semantics.specs.Configurations.{Around, Goes, doing}
-use Rattle.pc_semantics.specs.Children.{evaluations}
-use Rattle.pc_semantics.specs.Evaluation.{children_first, first_then, item_tasks}
-use Rattle.pc_rules.specs.Parts.{readable, lower, all_fields, through, type_of}
+use Rattle.pc_rules.specs.{Parts.{readable, lower, all_fields, through, type_of}, Fields.is_this, Control.{joined, gives_result, result_ok}, Rules.said_by}
 use Rattle.pc_valid.specs.Words.{Ty, Masks, before, masks_after}
-use Rattle.pc_rules.specs.Fields.{is_this}
-use Rattle.pc_rules.specs.Control.{joined, gives_result, result_ok}
-use Rattle.pc_rules.proofs.ByNumber.{body_says}
-use Rattle.pc_rules.specs.Rules.{said_by}
-use Rattle.pc_rules.proofs.Agreeing.{same_mask}
+use Rattle.pc_rules.proofs.{ByNumber.body_says, Agreeing.same_mask, Homes.home_body}
 use Rattle.pc_core.proofs.Homes.{home, home_method}
-use Rattle.pc_rules.proofs.Homes.{home_body}
-use Rattle.pc_lists.proofs.Bools.{false_true}
-use Rattle.pc_types.proofs.Types.{LowerType, Lower, Want, wanted}
-use Rattle.pc_types.proofs.Tasks.{Within, want_of, stacked, EvalOk, is_lazy, ReturnOk, TasksOk}
-use Rattle.pc_types.proofs.Moves.{MoveOk, Runs}
-use Rattle.pc_types.proofs.Needs.{Needs, IsChild}
-use Rattle.pc_types.proofs.Places.{is_under}
-use Rattle.pc_types.proofs.Basic.{within_trans, lower_same, trans_lower, eval_more, tasks_more}
-use Rattle.pc_types.proofs.Tables.{below_sees, recovered_sees}
-use Rattle.pc_types.proofs.Begin.{BodyRule, body_inverse}
-use Rattle.pc_types.proofs.Running.{tasks_ok}
-use Rattle.pc_types.proofs.EvalChildren.{within_is, items_less, First, first_of_them, type_is, child_ok, whole_ok, evaluations_ok, items_ok}
-use Rattle.pc_types.proofs.Inverse.{LazyRule, IfRule, WhileRule, SeqRule, RecoverRule, read_is, condition_is}
+use Rattle.pc_types.proofs.{Types.{LowerType, Lower, Want, wanted}, Tasks.{Within, want_of, stacked, EvalOk, is_lazy, ReturnOk, TasksOk}, Moves.{MoveOk, Runs}, Needs.{Needs, IsChild}, Places.is_under, Basic.{within_trans, lower_same, trans_lower, eval_more, tasks_more}, Tables.{below_sees, recovered_sees}, Begin.{BodyRule, body_inverse}, Running.tasks_ok, EvalChildren.{within_is, items_less, First, first_of_them, type_is, child_ok, whole_ok, evaluations_ok, items_ok}, Inverse.{LazyRule, IfRule, WhileRule, SeqRule, RecoverRule, read_is, condition_is}}
 
 -- ---- types
 

@@ -1,32 +1,16 @@
 -- The task Eval, at each kind of node.
 use Rattle.std.specs.Prelude.{◌≡◌, ℕ, Bool, true, false, List, Option, Some, slice_get, refl}
 use Rattle.std.proofs.Common.{inl, inr, ap, sym, subst, ◌∙◌}
-use Rattle.pc_core.specs.declared.nodes.Node.{Node}
-use Rattle.pc_core.specs.declared.nodes.NodeKind.{NodeKind}
+use Rattle.pc_core.specs.{declared.nodes.Node.Node, declared.nodes.NodeKind.NodeKind, CoreData.CoreData}
 use Rattle.pc_core.specs.declared.nodes.NodeKind.TheVariants as nodes
-use Rattle.pc_core.specs.CoreData.{CoreData}
 use Rattle.pc_ann.specs.declared.annotation.Ann.{Ann}
-use Rattle.pc_semantics.specs.declared.frames.Frame.{Frame}
+use Rattle.pc_semantics.specs.{declared.frames.Frame.Frame, Configurations.Around, Evaluation.evaluate, Parts.evaluate_node}
 use Rattle.pc_semantics.specs.declared.frames.Task.TheVariants as task
-use Rattle.pc_semantics.specs.Configurations.{Around}
-use Rattle.pc_semantics.specs.Evaluation.{evaluate}
-use Rattle.pc_semantics.specs.Parts.{evaluate_node}
-use Rattle.pc_rules.specs.Parts.{through}
+use Rattle.pc_rules.specs.{Parts.through, Rules.said_by}
 use Rattle.pc_valid.specs.Words.{Masks, before}
-use Rattle.pc_rules.specs.Rules.{said_by}
-use Rattle.pc_rules.proofs.ByNumber.{says}
-use Rattle.pc_rules.proofs.OneRule.{body_rule}
-use Rattle.pc_rules.proofs.Threads.{Threaded, is_branch}
-use Rattle.pc_lists.proofs.Bools.{false_true}
-use Rattle.pc_types.proofs.Tasks.{stacked, EvalOk, BodyOk, FinishOk, reads, writes, stores, makes, spawns, invokes, applies, is_lazy, TasksOk}
-use Rattle.pc_types.proofs.Moves.{MoveOk, Runs}
-use Rattle.pc_types.proofs.Needs.{Needs}
-use Rattle.pc_types.proofs.Basic.{within_same}
-use Rattle.pc_types.proofs.Notes.{meets, children_threaded}
-use Rattle.pc_types.proofs.Steps.{Keeps}
-use Rattle.pc_types.proofs.Inverse.{number_rule, truth_rule, text_rule, prim_rule, this_rule, local_rule, consume_rule, and_rule, or_rule, if_rule, while_rule, seq_rule, recover_rule}
-use Rattle.pc_types.proofs.EvalValue.{number_ok, truth_ok, text_ok, prim_ok, this_ok, local_ok, consume_ok}
-use Rattle.pc_types.proofs.EvalControl.{not_own, strict_ok, lazy_ok, if_ok, while_ok, seq_ok, recover_ok, body_ok}
+use Rattle.pc_rules.proofs.{ByNumber.says, OneRule.body_rule, Threads.{Threaded, is_branch}}
+use Rattle.pc_base.proofs.Bools.{false_true}
+use Rattle.pc_types.proofs.{Tasks.{stacked, EvalOk, BodyOk, FinishOk, reads, writes, stores, makes, spawns, invokes, applies, is_lazy, TasksOk}, Moves.{MoveOk, Runs}, Needs.Needs, Basic.within_same, Notes.{meets, children_threaded}, Steps.Keeps, Inverse.{number_rule, truth_rule, text_rule, prim_rule, this_rule, local_rule, consume_rule, and_rule, or_rule, if_rule, while_rule, seq_rule, recover_rule}, EvalValue.{number_ok, truth_ok, text_ok, prim_ok, this_ok, local_ok, consume_ok}, EvalControl.{not_own, strict_ok, lazy_ok, if_ok, while_ok, seq_ok, recover_ok, body_ok}}
 
 module _ (core : CoreData) (ann : Ann) (needs : Needs core ann) (around : Around) (f : Frame) (fs : List Frame) (r : Runs core ann around f fs) where
   module _ (n : ℕ) (e : EvalOk core ann f.method r.held.live r.held.set r.held.wants n (λ l s g. TasksOk core ann f.method f.tasks l s g)) where

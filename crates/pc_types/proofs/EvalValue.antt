@@ -1,43 +1,18 @@
 -- Eval at literals, `this` and slots.
 use Rattle.std.specs.Prelude.{◌≡◌, ◌≢◌, ℕ, ◌<◌, Bool, true, false, ◌&&◌, cond, List, ◌∷◌, Option, Some, None, slice_get, slice_set, refl}
-use Rattle.std.proofs.Common.{inl, ap, sym, subst, ◌∙◌, arith, length-set}
-use Rattle.std.proofs.lemmas.Option.{same_Some}
-use Rattle.std.proofs.lemmas.Bool.{and_parts}
-use Rattle.pc_heap.specs.declared.value.Value.{Value}
-use Rattle.pc_heap.specs.declared.value.Value.TheVariants.{Num, Truth, Text, Prim}
-use Rattle.pc_lists.proofs.Gets.{get_set_other}
-use Rattle.pc_caps.specs.Tables.{plain, unalias}
-use Rattle.pc_caps.specs.declared.capability.Cap.{Cap}
-use Rattle.pc_caps.specs.declared.capability.Form.{Form}
+use Rattle.std.proofs.{Common.{inl, ap, sym, subst, ◌∙◌, arith, length-set}, lemmas.Option.same_Some, lemmas.Bool.and_parts}
+use Rattle.pc_heap.specs.{declared.value.Value.Value, declared.value.Value.TheVariants.{Num, Truth, Text, Prim}}
+use Rattle.pc_base.proofs.{Gets.get_set_other, Bools.false_true}
+use Rattle.pc_caps.specs.{Tables.{plain, unalias}, declared.capability.Cap.Cap, declared.capability.Form.Form}
 use Rattle.pc_caps.specs.declared.capability.Form.TheVariants as form
-use Rattle.pc_core.specs.declared.declarations.Method.{Method}
-use Rattle.pc_core.specs.declared.nodes.NodeKind.{NodeKind}
+use Rattle.pc_core.specs.{declared.declarations.Method.Method, declared.nodes.NodeKind.NodeKind, declared.nodes.Slot.Slot, CoreData.CoreData}
 use Rattle.pc_core.specs.declared.nodes.NodeKind.TheVariants as nodes
-use Rattle.pc_core.specs.declared.nodes.Slot.{Slot}
-use Rattle.pc_core.specs.CoreData.{CoreData}
-use Rattle.pc_masks.specs.declared.mask.Mask.{Mask}
+use Rattle.pc_masks.specs.{declared.mask.Mask.Mask, Masks.without_number, MaskLaws.{within_bits, without_number_bits}}
 use Rattle.pc_ann.specs.declared.annotation.Ann.{Ann}
-use Rattle.pc_masks.specs.Masks.{without_number}
-use Rattle.pc_masks.specs.MaskLaws.{within_bits, without_number_bits}
-use Rattle.pc_semantics.specs.declared.frames.Frame.{Frame}
-use Rattle.pc_semantics.specs.Configurations.{Around, Goes, pushed}
-use Rattle.pc_semantics.specs.Parts.{push_slot, take_slot}
-use Rattle.pc_rules.specs.Parts.{all_fields, full, constructs, reachable}
+use Rattle.pc_semantics.specs.{declared.frames.Frame.Frame, Configurations.{Around, Goes, pushed}, Parts.{push_slot, take_slot}}
+use Rattle.pc_rules.specs.{Parts.{all_fields, full, constructs, reachable}, Fields.is_this, Values.this_form}
 use Rattle.pc_valid.specs.Words.{Ty, before}
-use Rattle.pc_rules.specs.Fields.{is_this}
-use Rattle.pc_rules.specs.Values.{this_form}
-use Rattle.pc_lists.proofs.Bools.{false_true}
-use Rattle.pc_types.proofs.Types.{sees, Finished, OfType, OfSome, held_in}
-use Rattle.pc_types.proofs.Tasks.{Within, EvalOk, TasksOk}
-use Rattle.pc_types.proofs.Frames.{SlotsOk}
-use Rattle.pc_types.proofs.Moves.{MoveOk, Runs}
-use Rattle.pc_types.proofs.Needs.{Needs}
-use Rattle.pc_types.proofs.Basic.{within_trans, of_lower, some_lower}
-use Rattle.pc_types.proofs.Notes.{slot_at, names_fit}
-use Rattle.pc_types.proofs.AllFields.{all_set}
-use Rattle.pc_types.proofs.Places.{taken_lower}
-use Rattle.pc_types.proofs.Running.{go_ok, push_ok}
-use Rattle.pc_types.proofs.Inverse.{Says, Used, ThisRule, LocalRule, ConsumeRule}
+use Rattle.pc_types.proofs.{Types.{sees, Finished, OfType, OfSome, held_in}, Tasks.{Within, EvalOk, TasksOk}, Frames.SlotsOk, Moves.{MoveOk, Runs}, Needs.Needs, Basic.{within_trans, of_lower, some_lower}, Notes.{slot_at, names_fit}, AllFields.all_set, Places.taken_lower, Running.{go_ok, push_ok}, Inverse.{Says, Used, ThisRule, LocalRule, ConsumeRule}}
 
 -- ---- forms
 

@@ -2,27 +2,14 @@
 use Rattle.std.specs.Prelude.{◌≡◌, ℕ, Bool, true, List, [], ◌∷◌, Option, Some, slice_get}
 use Rattle.std.proofs.Common.{ap, sym, subst, ◌∙◌}
 use Rattle.pc_heap.specs.declared.value.Value.{Value}
-use Rattle.pc_core.specs.declared.nodes.Node.{Node}
-use Rattle.pc_core.specs.declared.nodes.NodeKind.{NodeKind}
-use Rattle.pc_core.specs.CoreData.{CoreData}
+use Rattle.pc_core.specs.{declared.nodes.Node.Node, declared.nodes.NodeKind.NodeKind, CoreData.CoreData}
 use Rattle.pc_masks.specs.declared.mask.Mask.{Mask}
 use Rattle.pc_ann.specs.declared.annotation.Ann.{Ann}
-use Rattle.pc_semantics.specs.declared.frames.Frame.{Frame}
-use Rattle.pc_semantics.specs.Configurations.{Around, Move, Goes, with_stack, pushed}
-use Rattle.pc_semantics.specs.Parts.{with_top, at_node}
-use Rattle.pc_rules.specs.Parts.{type_of}
+use Rattle.pc_semantics.specs.{declared.frames.Frame.Frame, Configurations.{Around, Move, Goes, with_stack, pushed}, Parts.{with_top, at_node}}
+use Rattle.pc_rules.specs.{Parts.type_of, Fields.is_this, Rules.said_by}
 use Rattle.pc_valid.specs.Words.{Ty, before}
-use Rattle.pc_rules.specs.Fields.{is_this}
-use Rattle.pc_rules.specs.Rules.{said_by}
 use Rattle.pc_rules.proofs.ByNumber.{says}
-use Rattle.pc_types.proofs.Types.{OfType, OfSome, Want, Answers, StackOk}
-use Rattle.pc_types.proofs.Tasks.{Within, want_of, stacked, FinishOk, TasksOk}
-use Rattle.pc_types.proofs.Moves.{MoveOk, Runs}
-use Rattle.pc_types.proofs.Needs.{Needs}
-use Rattle.pc_types.proofs.Notes.{meets}
-use Rattle.pc_types.proofs.Values.{TopIs, top_is}
-use Rattle.pc_types.proofs.Running.{push_ok}
-use Rattle.pc_types.proofs.Inverse.{Says}
+use Rattle.pc_types.proofs.{Types.{OfType, OfSome, Want, Answers, StackOk}, Tasks.{Within, want_of, stacked, FinishOk, TasksOk}, Moves.{MoveOk, Runs}, Needs.Needs, Notes.meets, Values.{TopIs, top_is}, Running.push_ok, Inverse.Says}
 
 -- The two values on top of a typed stack: the second one is on top of the first.
 pub record TwoTops (core : CoreData) (around : Around) (this : Value) (a b : Want) (below : List Want) (vs : List Value) : Type 0 where

@@ -1,26 +1,17 @@
 -- When the frames of an actor can go on: the contents of their slots and stacks have the right types, their tasks can
 -- be done, and each frame except the top waits for what the one above it leaves. An idle actor's object has all its
 -- fields.
-use Rattle.std.specs.Prelude.{◌≡◌, ℕ, ◌+◌, ◌<◌, Bool, true, false, List, [], ◌∷◌, ◌++◌, length, Option, Some, slice_get}
-use Rattle.std.specs.FinMap.{get}
-use Rattle.pc_heap.specs.Objects.{ObjectMap, Object}
-use Rattle.pc_heap.specs.declared.value.Value.{Value}
-use Rattle.pc_heap.specs.declared.value.Value.TheVariants.{At}
-use Rattle.pc_caps.specs.Tables.{plain}
-use Rattle.pc_caps.specs.declared.capability.Cap.{Cap}
-use Rattle.pc_core.specs.declared.declarations.Method.{Method}
-use Rattle.pc_core.specs.declared.declarations.MethodKind.{MethodKind}
+use Rattle.std.specs.{Prelude.{◌≡◌, ℕ, ◌+◌, ◌<◌, Bool, true, false, List, [], ◌∷◌, ◌++◌, length, Option, Some, slice_get}, FinMap.get}
+use Rattle.pc_heap.specs.{Objects.{ObjectMap, Object}, declared.value.Value.Value, declared.value.Value.TheVariants.At}
+use Rattle.pc_caps.specs.{Tables.plain, declared.capability.Cap.Cap}
+use Rattle.pc_core.specs.{declared.declarations.Method.Method, declared.declarations.MethodKind.MethodKind, CoreData.CoreData}
 use Rattle.pc_core.specs.declared.declarations.MethodKind.TheVariants as method
-use Rattle.pc_core.specs.CoreData.{CoreData}
-use Rattle.pc_masks.specs.declared.mask.Mask.{Mask}
+use Rattle.pc_masks.specs.{declared.mask.Mask.Mask, Masks.IsInMask}
 use Rattle.pc_ann.specs.declared.annotation.Ann.{Ann}
-use Rattle.pc_masks.specs.Masks.{IsInMask}
-use Rattle.pc_semantics.specs.declared.frames.Frame.{Frame}
-use Rattle.pc_semantics.specs.Configurations.{own_address, value_entity}
+use Rattle.pc_semantics.specs.{declared.frames.Frame.Frame, Configurations.{own_address, value_entity}}
 use Rattle.pc_rules.specs.Parts.{constructs}
 use Rattle.pc_valid.specs.Words.{Ty}
-use Rattle.pc_types.proofs.Types.{sees, Finished, OfKind, OfType, held_in, Lower, Want, wanted, StackOk}
-use Rattle.pc_types.proofs.Tasks.{TasksOk}
+use Rattle.pc_types.proofs.{Types.{sees, Finished, OfKind, OfType, held_in, Lower, Want, wanted, StackOk}, Tasks.TasksOk}
 
 -- ---- the object of a frame
 

@@ -1,50 +1,23 @@
 -- The task Get: a field is read.
 use Rattle.std.specs.Prelude.{◌≡◌, ℕ, true, List, [], ◌∷◌, length, Option, Some, slice_get, refl}
-use Rattle.std.proofs.Common.{inl, ap, sym, subst, ◌∙◌, arith}
-use Rattle.std.proofs.lemmas.Option.{same_Some, none-some}
-use Rattle.pc_heap.specs.Objects.{Object}
-use Rattle.pc_heap.specs.declared.value.Value.{Value}
-use Rattle.pc_caps.specs.Tables.{view}
-use Rattle.pc_caps.specs.declared.capability.Form.{Form}
+use Rattle.std.proofs.{Common.{inl, ap, sym, subst, ◌∙◌, arith}, lemmas.Option.{same_Some, none-some}}
+use Rattle.pc_heap.specs.{Objects.Object, declared.value.Value.Value}
+use Rattle.pc_caps.specs.{Tables.view, declared.capability.Form.Form}
 use Rattle.pc_caps.specs.declared.capability.Form.TheVariants as form
-use Rattle.pc_core.specs.declared.declarations.FieldInfo.{FieldInfo}
-use Rattle.pc_core.specs.declared.declarations.Method.{Method}
-use Rattle.pc_core.specs.declared.nodes.Node.{Node}
-use Rattle.pc_core.specs.declared.nodes.NodeKind.{NodeKind}
+use Rattle.pc_core.specs.{declared.declarations.FieldInfo.FieldInfo, declared.declarations.Method.Method, declared.nodes.Node.Node, declared.nodes.NodeKind.NodeKind, CoreData.CoreData, Nodes.HasArity}
 use Rattle.pc_core.specs.declared.nodes.NodeKind.TheVariants as nodes
-use Rattle.pc_core.specs.CoreData.{CoreData}
-use Rattle.pc_lists.specs.Lists.{◌>>=◌}
-use Rattle.pc_lists.proofs.Options.{bind_some, kept, kept_otherwise}
-use Rattle.pc_core.specs.Nodes.{HasArity}
-use Rattle.pc_ann.specs.declared.annotation.Note.{Note}
-use Rattle.pc_ann.specs.declared.annotation.Ann.{Ann}
-use Rattle.pc_ann.specs.declared.annotation.Rule.{Rule}
+use Rattle.pc_base.specs.Lists.{◌>>=◌}
+use Rattle.pc_base.proofs.{Options.{bind_some, kept, kept_otherwise}, Bools.false_true}
+use Rattle.pc_ann.specs.{declared.annotation.Note.Note, declared.annotation.Ann.Ann, declared.annotation.Rule.Rule}
 use Rattle.pc_ann.specs.declared.annotation.Rule.TheVariants as rule
 use Rattle.pc_masks.specs.Masks.{has}
-use Rattle.pc_semantics.specs.declared.frames.Frame.{Frame}
+use Rattle.pc_semantics.specs.{declared.frames.Frame.Frame, Configurations.{Around, Move, Goes, with_stack, pushed}, Parts.{get_value, get_field, get_of, get_from}, Calls.get_task}
 use Rattle.pc_semantics.specs.declared.frames.Task.TheVariants as task
-use Rattle.pc_semantics.specs.Configurations.{Around, Move, Goes, with_stack, pushed}
-use Rattle.pc_semantics.specs.Parts.{get_value, get_field, get_of, get_from}
-use Rattle.pc_semantics.specs.Calls.{get_task}
-use Rattle.pc_rules.specs.Parts.{says_of, through, type_of, one_child, last_child, constructs}
+use Rattle.pc_rules.specs.{Parts.{says_of, through, type_of, one_child, last_child, constructs}, Fields.{is_this, field_of, own_field, field_type}, Rules.said_by}
 use Rattle.pc_valid.specs.Words.{Ty, Masks, before}
-use Rattle.pc_rules.specs.Fields.{is_this, field_of, own_field, field_type}
-use Rattle.pc_rules.specs.Rules.{said_by}
 use Rattle.pc_rules.proofs.ByNumber.{incomplete, read_says, own_read_says, own_seen, says}
-use Rattle.pc_lists.proofs.Bools.{false_true}
-use Rattle.pc_types.proofs.Types.{OfType, Answers, StackOk}
-use Rattle.pc_types.proofs.Tasks.{want_of, reads, FinishOk, TasksOk}
-use Rattle.pc_types.proofs.Frames.{HasFields}
+use Rattle.pc_types.proofs.{Types.{OfType, Answers, StackOk}, Tasks.{want_of, reads, FinishOk, TasksOk}, Frames.HasFields, Moves.{MoveOk, Runs}, Needs.Needs, Basic.of_lower, Tables.{view_sees, view_plain}, Begin.only_one, Steps.Keeps, Inverse.{Says, said_type}, Origins.{FieldAt, field_at, Origin, origin_of, origin_at, value_there, set_value, OwnOrigin, own_origin}, Finish.{one_top, done_ok, own_is, rule_is, at_this, typed_at, at_top}}
 use Rattle.pc_types.proofs.Typed as typed
-use Rattle.pc_types.proofs.Moves.{MoveOk, Runs}
-use Rattle.pc_types.proofs.Needs.{Needs}
-use Rattle.pc_types.proofs.Basic.{of_lower}
-use Rattle.pc_types.proofs.Tables.{view_sees, view_plain}
-use Rattle.pc_types.proofs.Begin.{only_one}
-use Rattle.pc_types.proofs.Steps.{Keeps}
-use Rattle.pc_types.proofs.Inverse.{Says, said_type}
-use Rattle.pc_types.proofs.Origins.{FieldAt, field_at, Origin, origin_of, origin_at, value_there, set_value, OwnOrigin, own_origin}
-use Rattle.pc_types.proofs.Finish.{one_top, done_ok, own_is, rule_is, at_this, typed_at, at_top}
 
 -- ---- what the rules state
 

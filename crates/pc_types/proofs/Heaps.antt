@@ -1,20 +1,10 @@
 -- Objects after one is added, and after a field is set.
-use Rattle.std.specs.Prelude.{◌≡◌, ◌⊎◌, ℕ, ◌+◌, ◌<◌, ◌≤◌, Bool, true, false, cond, length, Option, Some, None, nat_eq, slice_get, slice_set, refl}
-use Rattle.std.proofs.Common.{inl, inr, ap, sym, subst, ◌∙◌, arith, length-set}
-use Rattle.std.proofs.lemmas.Option.{same_Some, none-some}
-use Rattle.std.proofs.lemmas.Bool.{eq-eqb}
-use Rattle.std.proofs.lemmas.Bool.Decides.{eqb_tells}
-use Rattle.std.specs.Ordering.{eq_by_cmp}
-use Rattle.std.specs.FinMap.{get, insert, get-insert}
-use Rattle.std.proofs.lemmas.Map.Views.{tells_apart}
-use Rattle.pc_heap.specs.Objects.{address_cmp, ObjectMap, made_by, next_address, with_field, with_value, Object}
-use Rattle.pc_heap.specs.Parts.{object_in}
-use Rattle.pc_heap.proofs.Maps.{addresses_total, exact_addresses, get_own}
-use Rattle.pc_heap.proofs.Counts.{made_more}
-use Rattle.pc_lists.specs.Counts.{one_if}
-use Rattle.pc_heap.specs.declared.value.Address.{Address}
-use Rattle.pc_heap.specs.declared.value.Value.{Value}
-use Rattle.pc_lists.proofs.Gets.{get_below, get_set_same, get_set_other}
+use Rattle.std.specs.{Prelude.{◌≡◌, ◌⊎◌, ℕ, ◌+◌, ◌<◌, ◌≤◌, Bool, true, false, cond, length, Option, Some, None, nat_eq, slice_get, slice_set, refl}, Ordering.eq_by_cmp, FinMap.{get, insert, get-insert}}
+use Rattle.std.proofs.{Common.{inl, inr, ap, sym, subst, ◌∙◌, arith, length-set}, lemmas.Option.{same_Some, none-some}, lemmas.Bool.eq-eqb, lemmas.Bool.Decides.eqb_tells, lemmas.Map.Views.tells_apart}
+use Rattle.pc_heap.specs.{Objects.{address_cmp, ObjectMap, made_by, next_address, with_field, with_value, Object}, Parts.object_in, declared.value.Address.Address, declared.value.Value.Value}
+use Rattle.pc_heap.proofs.{Maps.{addresses_total, exact_addresses, get_own}, Counts.made_more}
+use Rattle.pc_base.specs.Counts.{one_if}
+use Rattle.pc_base.proofs.Gets.{get_below, get_set_same, get_set_other}
 use Rattle.pc_types.proofs.Growth.{Grown, grown_same, Extends}
 
 -- One address, or another.

@@ -1,33 +1,17 @@
 -- What a note states that meets its rule, by the kind of its node: values, slots and control.
 use Rattle.std.specs.Prelude.{◌≡◌, ℕ, true, ◌&&◌, List, [], ◌∷◌, Option, Some, None, nat_eq, slice_get, refl}
-use Rattle.std.proofs.Common.{ap, sym, subst, ◌∙◌}
-use Rattle.std.proofs.lemmas.Option.{same_Some, none-some}
-use Rattle.std.proofs.lemmas.Bool.{and_parts, eqb-true}
-use Rattle.pc_caps.specs.declared.capability.Cap.{Cap}
-use Rattle.pc_caps.specs.declared.capability.Form.{Form}
+use Rattle.std.proofs.{Common.{ap, sym, subst, ◌∙◌}, lemmas.Option.{same_Some, none-some}, lemmas.Bool.{and_parts, eqb-true}}
+use Rattle.pc_caps.specs.{declared.capability.Cap.Cap, declared.capability.Form.Form, Tables.{plain, unalias}}
 use Rattle.pc_caps.specs.declared.capability.Form.TheVariants as form
-use Rattle.pc_caps.specs.Tables.{plain, unalias}
-use Rattle.pc_core.specs.declared.declarations.Method.{Method}
-use Rattle.pc_core.specs.declared.nodes.Slot.{Slot}
-use Rattle.pc_core.specs.declared.nodes.Node.{Node}
+use Rattle.pc_core.specs.{declared.declarations.Method.Method, declared.nodes.Slot.Slot, declared.nodes.Node.Node, CoreData.CoreData}
 use Rattle.pc_core.specs.declared.nodes.NodeKind.TheVariants as nodes
-use Rattle.pc_core.specs.CoreData.{CoreData}
-use Rattle.pc_lists.proofs.Options.{bind_some, kept}
-use Rattle.pc_masks.specs.declared.mask.Mask.{Mask}
-use Rattle.pc_ann.specs.declared.annotation.Note.{Note}
-use Rattle.pc_ann.specs.declared.annotation.Ann.{Ann}
-use Rattle.pc_ann.specs.declared.annotation.Rule.{Rule}
+use Rattle.pc_base.proofs.{Options.{bind_some, kept}, Bools.false_true}
+use Rattle.pc_masks.specs.{declared.mask.Mask.Mask, Masks.{has, without_number, within, same}}
+use Rattle.pc_ann.specs.{declared.annotation.Note.Note, declared.annotation.Ann.Ann, declared.annotation.Rule.Rule}
 use Rattle.pc_ann.specs.declared.annotation.Rule.TheVariants as rule
-use Rattle.pc_masks.specs.Masks.{has, without_number, within, same}
-use Rattle.pc_rules.specs.declared.said.Said.{Said}
-use Rattle.pc_rules.specs.Parts.{says_of, reads_as, readable, reachable, through, type_of, one_child, last_child}
+use Rattle.pc_rules.specs.{declared.said.Said.Said, Parts.{says_of, reads_as, readable, reachable, through, type_of, one_child, last_child}, Values.this_form, Operators.{both_read_as, meet_masks}, Control.{without_items, joined, is_condition, recovered}, Rules.said_by}
 use Rattle.pc_valid.specs.Words.{Ty, Masks, before}
-use Rattle.pc_rules.specs.Values.{this_form}
-use Rattle.pc_rules.specs.Operators.{both_read_as, meet_masks}
-use Rattle.pc_rules.specs.Control.{without_items, joined, is_condition, recovered}
-use Rattle.pc_rules.specs.Rules.{said_by}
 use Rattle.pc_rules.proofs.ByNumber.{slot_of, two_children, three_children, two_types, this_says, used, lazy_masks, lazy_says, branch_masks, branch_types, loop_masks, seq_says, if_says, while_says, recover_says, says}
-use Rattle.pc_lists.proofs.Bools.{false_true}
 use Rattle.pc_types.proofs.Begin.{only_one}
 
 -- ---- children

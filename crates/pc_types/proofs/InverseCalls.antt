@@ -1,36 +1,18 @@
 -- What the rules of constructors, calls and messages state, part by part.
 use Rattle.std.specs.Prelude.{◌≡◌, ◌⊎◌, ℕ, Bool, true, false, cond, ◌&&◌, not, List, [], ◌∷◌, Option, Some, None, nat_eq, slice_get, codes, refl}
-use Rattle.std.proofs.Common.{inl, inr, ap, sym, subst, ◌∙◌}
-use Rattle.std.proofs.lemmas.Option.{same_Some, none-some}
-use Rattle.std.proofs.lemmas.Bool.{and_parts, eqb-true, or_cases}
-use Rattle.pc_caps.specs.Tables.{plain, sendable_form}
-use Rattle.pc_caps.specs.Computed.{fits}
-use Rattle.pc_caps.specs.declared.capability.Form.{Form}
+use Rattle.std.proofs.{Common.{inl, inr, ap, sym, subst, ◌∙◌}, lemmas.Option.{same_Some, none-some}, lemmas.Bool.{and_parts, eqb-true, or_cases}}
+use Rattle.pc_caps.specs.{Tables.{plain, sendable_form}, Computed.fits, declared.capability.Form.Form}
 use Rattle.pc_caps.specs.declared.capability.Form.TheVariants as form
-use Rattle.pc_core.specs.declared.declarations.Method.{Method}
-use Rattle.pc_core.specs.declared.declarations.MethodKind.{MethodKind}
+use Rattle.pc_core.specs.{declared.declarations.Method.Method, declared.declarations.MethodKind.MethodKind, declared.nodes.Node.Node, declared.nodes.NodeKind.NodeKind, CoreData.{CoreData, method_named}}
 use Rattle.pc_core.specs.declared.declarations.MethodKind.TheVariants as method
-use Rattle.pc_core.specs.declared.nodes.Node.{Node}
-use Rattle.pc_core.specs.declared.nodes.NodeKind.{NodeKind}
 use Rattle.pc_core.specs.declared.nodes.NodeKind.TheVariants as nodes
-use Rattle.pc_core.specs.CoreData.{CoreData, method_named}
-use Rattle.pc_lists.proofs.Options.{bind_some, kept}
-use Rattle.pc_ann.specs.declared.annotation.Note.{Note}
-use Rattle.pc_ann.specs.declared.annotation.Ann.{Ann}
-use Rattle.pc_ann.specs.declared.annotation.Rule.{Rule}
+use Rattle.pc_base.proofs.{Options.{bind_some, kept}, Bools.false_true}
+use Rattle.pc_ann.specs.{declared.annotation.Note.Note, declared.annotation.Ann.Ann, declared.annotation.Rule.Rule}
 use Rattle.pc_ann.specs.declared.annotation.Rule.TheVariants as rule
-use Rattle.pc_rules.specs.declared.said.Said.{Said}
-use Rattle.pc_rules.specs.Parts.{says_of, through, type_of, one_child, last_child, readable, reads_as}
+use Rattle.pc_rules.specs.{declared.said.Said.Said, Parts.{says_of, through, type_of, one_child, last_child, readable, reads_as}, Calls.{is_function, is_behaviour, is_isolated, is_lent, lends, recovered_result, same_text, has_text, has_string}, Rules.said_by}
 use Rattle.pc_valid.specs.Words.{Ty, Masks, before}
-use Rattle.pc_rules.specs.Calls.{is_function, is_behaviour, is_isolated, is_lent, lends, recovered_result, same_text, has_text, has_string}
-use Rattle.pc_rules.specs.Rules.{said_by}
 use Rattle.pc_rules.proofs.ByNumber.{arguments, arguments_go, arguments_sendable, called, calls, recovers, sends, new_says, spawn_says, call_says, callrecover_says, send_says, builtin_says, says, IsSaid}
-use Rattle.pc_lists.proofs.Bools.{false_true}
-use Rattle.pc_types.proofs.Types.{sees, Lower}
-use Rattle.pc_types.proofs.Basic.{lower_same}
-use Rattle.pc_types.proofs.Begin.{only_one}
-use Rattle.pc_types.proofs.Inverse.{says_is}
-use Rattle.pc_types.proofs.Tables.{fits_sees}
+use Rattle.pc_types.proofs.{Types.{sees, Lower}, Basic.lower_same, Begin.only_one, Inverse.says_is, Tables.fits_sees}
 
 -- ---- the rule of a constructor, and those of a call
 

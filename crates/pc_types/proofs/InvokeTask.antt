@@ -1,55 +1,22 @@
 -- A call by the receiver's own entity: a function begins, a behaviour's message is sent, and `string` gives a text.
 use Rattle.std.specs.Prelude.{◌≡◌, ◌≢◌, ℕ, ◌+◌, ◌-◌, ◌<◌, true, List, ◌∷◌, Option, Some, None, length, slice_get, decimal, refl}
-use Rattle.std.proofs.Common.{inl, inr, ap, sym, subst, ◌∙◌, arith}
-use Rattle.std.proofs.lemmas.Option.{same_Some}
-use Rattle.std.proofs.lemmas.Bool.{eq-eqb, lt-ltb}
-use Rattle.pc_heap.specs.Objects.{ObjectMap, class_at}
-use Rattle.pc_heap.specs.declared.value.Address.{Address}
-use Rattle.pc_heap.specs.declared.value.Value.{Value}
-use Rattle.pc_heap.specs.declared.value.Value.TheVariants.{Text}
+use Rattle.std.proofs.{Common.{inl, inr, ap, sym, subst, ◌∙◌, arith}, lemmas.Option.same_Some, lemmas.Bool.{eq-eqb, lt-ltb}}
+use Rattle.pc_heap.specs.{Objects.{ObjectMap, class_at}, declared.value.Address.Address, declared.value.Value.Value, declared.value.Value.TheVariants.Text}
 use Rattle.pc_caps.specs.declared.capability.Form.TheVariants as form
 use Rattle.pc_tree.specs.declared.kinds.EntityKind.TheVariants as kind
-use Rattle.pc_core.specs.declared.declarations.EntityDef.{EntityDef}
-use Rattle.pc_core.specs.declared.declarations.Method.{Method}
+use Rattle.pc_core.specs.{declared.declarations.EntityDef.EntityDef, declared.declarations.Method.Method, declared.nodes.NodeKind.NodeKind, CoreData.{CoreData, own_methods, method_named}, Parts.method_name}
 use Rattle.pc_core.specs.declared.declarations.MethodKind.TheVariants as method
-use Rattle.pc_core.specs.declared.nodes.NodeKind.{NodeKind}
 use Rattle.pc_core.specs.declared.nodes.NodeKind.TheVariants as nodes
-use Rattle.pc_core.specs.CoreData.{CoreData, own_methods, method_named}
-use Rattle.pc_core.specs.Parts.{method_name}
 use Rattle.pc_tree.specs.Kinds.{may_have_fields}
-use Rattle.pc_lists.specs.Lists.{place_of}
-use Rattle.pc_lists.proofs.Options.{bind_some}
-use Rattle.pc_lists.proofs.Lookup.{place_found}
-use Rattle.pc_lists.proofs.Gets.{get_range}
+use Rattle.pc_base.specs.Lists.{place_of}
+use Rattle.pc_base.proofs.{Options.bind_some, Lookup.place_found, Gets.get_range, Bools.false_true}
 use Rattle.pc_ann.specs.declared.annotation.Ann.{Ann}
-use Rattle.pc_semantics.specs.declared.frames.Frame.{Frame}
+use Rattle.pc_semantics.specs.{declared.frames.Frame.Frame, Configurations.{own_address, Around, none, value_entity}, Calls.invoke_task, Parts.truth_text}
 use Rattle.pc_semantics.specs.declared.frames.Task.TheVariants as task
-use Rattle.pc_semantics.specs.Configurations.{own_address, Around, none, value_entity}
-use Rattle.pc_semantics.specs.Calls.{invoke_task}
-use Rattle.pc_semantics.specs.Parts.{truth_text}
-use Rattle.pc_rules.specs.Parts.{through, constructs}
+use Rattle.pc_rules.specs.{Parts.{through, constructs}, Control.start_set, Fields.is_this}
 use Rattle.pc_valid.specs.Words.{Ty, before}
 use Rattle.pc_rules.proofs.ByNumber.{arguments}
-use Rattle.pc_rules.specs.Control.{start_set}
-use Rattle.pc_rules.specs.Fields.{is_this}
-use Rattle.pc_lists.proofs.Bools.{false_true}
-use Rattle.pc_types.proofs.Types.{OfKind, OfType, OfSome, ArgumentsOk, LowerType, Want, StackOk}
-use Rattle.pc_types.proofs.Tasks.{want_of, stacked, FinishOk, invokes, TasksOk}
-use Rattle.pc_types.proofs.Frames.{ThisOk, leaves}
-use Rattle.pc_types.proofs.Typed.{ObjectsOk}
-use Rattle.pc_types.proofs.Moves.{MoveOk, Runs}
-use Rattle.pc_types.proofs.Needs.{Declared, Needs}
-use Rattle.pc_types.proofs.Basic.{trans_lower}
-use Rattle.pc_types.proofs.Notes.{meets}
-use Rattle.pc_types.proofs.Tables.{unalias_sees, order_sees}
-use Rattle.pc_types.proofs.Values.{top_is, is_number, is_truth, is_address, own_no_trait}
-use Rattle.pc_types.proofs.Begin.{first_ok}
-use Rattle.pc_types.proofs.Growth.{object_of}
-use Rattle.pc_types.proofs.Running.{push_ok}
-use Rattle.pc_types.proofs.InverseCalls.{CalledRule, FunctionRule, SendRule, TextRule, call_of}
-use Rattle.pc_types.proofs.Popped.{Popped, popped_is, take_arguments, arguments_lower, receiver_last, arguments_count, stacked_last}
-use Rattle.pc_types.proofs.Callers.{left_within, counts, actor_of_be, not_print, waits_ok}
-use Rattle.pc_types.proofs.Steps.{Keeps}
+use Rattle.pc_types.proofs.{Types.{OfKind, OfType, OfSome, ArgumentsOk, LowerType, Want, StackOk}, Tasks.{want_of, stacked, FinishOk, invokes, TasksOk}, Frames.{ThisOk, leaves}, Typed.ObjectsOk, Moves.{MoveOk, Runs}, Needs.{Declared, Needs}, Basic.trans_lower, Notes.meets, Tables.{unalias_sees, order_sees}, Values.{top_is, is_number, is_truth, is_address, own_no_trait}, Begin.first_ok, Growth.object_of, Running.push_ok, InverseCalls.{CalledRule, FunctionRule, SendRule, TextRule, call_of}, Popped.{Popped, popped_is, take_arguments, arguments_lower, receiver_last, arguments_count, stacked_last}, Callers.{left_within, counts, actor_of_be, not_print, waits_ok}, Steps.Keeps}
 
 pub invokes_is : (k : NodeKind) → invokes k ≡ true → (name : ℕ) × (k ≡ nodes.Call name)
 invokes_is (nodes.Call name) e = (name, refl)

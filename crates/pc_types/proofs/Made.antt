@@ -1,38 +1,16 @@
 -- A move that preserves what it has to leaves a well-typed configuration, and lacks nothing.
-use Rattle.std.specs.Prelude.{◌≡◌, ◌≢◌, ℕ, zero, suc, ◌+◌, ◌<◌, ◌≤◌, true, List, [], ◌∷◌, ◌++◌, length, replicate, Option, Some, None, slice_get, slice_set, refl}
-use Rattle.std.proofs.Common.{inl, inr, ap, sym, subst, ◌∙◌, arith, length-set, length-append}
-use Rattle.std.proofs.lemmas.Option.{same_Some, none-some}
-use Rattle.std.proofs.lemmas.List.{length-replicate}
-use Rattle.std.specs.FinMap.{get, insert}
-use Rattle.pc_heap.specs.Objects.{ObjectMap, made_by, next_address, with_field, with_value, Object}
+use Rattle.std.specs.{Prelude.{◌≡◌, ◌≢◌, ℕ, zero, suc, ◌+◌, ◌<◌, ◌≤◌, true, List, [], ◌∷◌, ◌++◌, length, replicate, Option, Some, None, slice_get, slice_set, refl}, FinMap.{get, insert}}
+use Rattle.std.proofs.{Common.{inl, inr, ap, sym, subst, ◌∙◌, arith, length-set, length-append}, lemmas.Option.{same_Some, none-some}, lemmas.List.length-replicate}
+use Rattle.pc_heap.specs.{Objects.{ObjectMap, made_by, next_address, with_field, with_value, Object}, declared.value.Address.Address, declared.value.Value.Value}
 use Rattle.pc_heap.proofs.Counts.{made_same}
-use Rattle.pc_heap.specs.declared.value.Address.{Address}
-use Rattle.pc_heap.specs.declared.value.Value.{Value}
-use Rattle.pc_tree.specs.declared.kinds.EntityKind.{EntityKind}
+use Rattle.pc_tree.specs.{declared.kinds.EntityKind.EntityKind, Kinds.may_have_fields}
 use Rattle.pc_tree.specs.declared.kinds.EntityKind.TheVariants as kind
-use Rattle.pc_lists.proofs.Gets.{get_within, get_push, get_set}
-use Rattle.pc_core.specs.declared.declarations.EntityDef.{EntityDef}
-use Rattle.pc_core.specs.declared.declarations.FieldInfo.{FieldInfo}
+use Rattle.pc_base.proofs.Gets.{get_within, get_push, get_set}
+use Rattle.pc_core.specs.{declared.declarations.EntityDef.EntityDef, declared.declarations.FieldInfo.FieldInfo, CoreData.CoreData, Formed.Formed}
 use Rattle.pc_core.specs.declared.declarations.MethodKind.TheVariants as method
-use Rattle.pc_core.specs.CoreData.{CoreData}
-use Rattle.pc_tree.specs.Kinds.{may_have_fields}
-use Rattle.pc_core.specs.Formed.{Formed}
 use Rattle.pc_ann.specs.declared.annotation.Ann.{Ann}
-use Rattle.pc_semantics.specs.declared.actors.Actor.{Actor}
-use Rattle.pc_semantics.specs.declared.frames.Frame.{Frame}
-use Rattle.pc_semantics.specs.declared.mailbox.Message.{Message}
-use Rattle.pc_semantics.specs.declared.outcome.Lack.{Lack}
-use Rattle.pc_semantics.specs.declared.outcome.Outcome.{Outcome}
-use Rattle.pc_semantics.specs.declared.outcome.Outcome.TheVariants.{Lacks}
-use Rattle.pc_semantics.specs.Configurations.{Configuration, with_actor, with_frames, own_address, blank_object, Move, Stuck, Overflows, Goes, Writes, Makes, Spawns, Enters, Sends, Leaves}
-use Rattle.pc_semantics.specs.Parts.{with_objects, number_of_fields, delivered}
-use Rattle.pc_semantics.specs.Step.{left, made, around}
-use Rattle.pc_types.proofs.Types.{OfType}
-use Rattle.pc_types.proofs.Frames.{FramesOk}
-use Rattle.pc_types.proofs.Typed.{field_type, ObjectOk, PlaceOk, ObjectsOk, MessageOk, MailOk, FirstMailOk, ActorOk, WellTyped}
-use Rattle.pc_types.proofs.Moves.{SpawnOk, MoveOk}
-use Rattle.pc_types.proofs.Growth.{Extends, class_kept, of_kept, object_kept, mail_kept, actor_kept}
-use Rattle.pc_types.proofs.Heaps.{put_or_before, fresh_extends, written, write_extends, made_grows, made_here, fresh}
+use Rattle.pc_semantics.specs.{declared.actors.Actor.Actor, declared.frames.Frame.Frame, declared.mailbox.Message.Message, declared.outcome.Lack.Lack, declared.outcome.Outcome.Outcome, declared.outcome.Outcome.TheVariants.Lacks, Configurations.{Configuration, with_actor, with_frames, own_address, blank_object, Move, Stuck, Overflows, Goes, Writes, Makes, Spawns, Enters, Sends, Leaves}, Parts.{with_objects, number_of_fields, delivered}, Step.{left, made, around}}
+use Rattle.pc_types.proofs.{Types.OfType, Frames.FramesOk, Typed.{field_type, ObjectOk, PlaceOk, ObjectsOk, MessageOk, MailOk, FirstMailOk, ActorOk, WellTyped}, Moves.{SpawnOk, MoveOk}, Growth.{Extends, class_kept, of_kept, object_kept, mail_kept, actor_kept}, Heaps.{put_or_before, fresh_extends, written, write_extends, made_grows, made_here, fresh}}
 
 -- The configuration is well typed, and the step lacks nothing.
 abbrev pub StepOk : CoreData → Ann → Outcome × Configuration → Type 0

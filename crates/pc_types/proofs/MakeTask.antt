@@ -1,51 +1,20 @@
 -- A class's object is made, and its constructor begins.
-use Rattle.std.specs.Prelude.{◌≡◌, ◌≢◌, ℕ, true, List, ◌∷◌, Some, length, slice_get, refl}
-use Rattle.std.proofs.Common.{ap, sym, subst, ◌∙◌}
-use Rattle.std.proofs.lemmas.Option.{same_Some}
-use Rattle.std.specs.FinMap.{insert}
-use Rattle.pc_core.specs.declared.declarations.EntityDef.{EntityDef}
-use Rattle.pc_core.specs.declared.declarations.Method.{Method}
-use Rattle.pc_heap.specs.Objects.{ObjectMap, next_address, Object}
-use Rattle.pc_heap.specs.declared.value.Address.{Address}
-use Rattle.pc_heap.specs.declared.value.Value.{Value}
-use Rattle.pc_heap.specs.declared.value.Value.TheVariants.{At}
+use Rattle.std.specs.{Prelude.{◌≡◌, ◌≢◌, ℕ, true, List, ◌∷◌, Some, length, slice_get, refl}, FinMap.insert}
+use Rattle.std.proofs.{Common.{ap, sym, subst, ◌∙◌}, lemmas.Option.same_Some}
+use Rattle.pc_core.specs.{declared.declarations.EntityDef.EntityDef, declared.declarations.Method.Method, declared.declarations.MethodKind.MethodKind, declared.nodes.Node.Node, declared.nodes.NodeKind.NodeKind, CoreData.CoreData, Methods.ResultFits, Nodes.NamesFit, Further.NamesMethod}
+use Rattle.pc_heap.specs.{Objects.{ObjectMap, next_address, Object}, declared.value.Address.Address, declared.value.Value.Value, declared.value.Value.TheVariants.At}
 use Rattle.pc_tree.specs.declared.kinds.EntityKind.TheVariants as kind
 use Rattle.pc_caps.specs.declared.capability.Cap.TheVariants as cap
-use Rattle.pc_core.specs.declared.declarations.MethodKind.{MethodKind}
 use Rattle.pc_core.specs.declared.declarations.MethodKind.TheVariants as method
-use Rattle.pc_core.specs.declared.nodes.Node.{Node}
-use Rattle.pc_core.specs.declared.nodes.NodeKind.{NodeKind}
 use Rattle.pc_core.specs.declared.nodes.NodeKind.TheVariants as nodes
-use Rattle.pc_core.specs.CoreData.{CoreData}
 use Rattle.pc_tree.specs.Kinds.{may_have_fields}
-use Rattle.pc_core.specs.Methods.{ResultFits}
-use Rattle.pc_core.specs.Nodes.{NamesFit}
-use Rattle.pc_core.specs.Further.{NamesMethod}
-use Rattle.pc_ann.specs.declared.annotation.Note.{Note}
-use Rattle.pc_ann.specs.declared.annotation.Ann.{Ann}
-use Rattle.pc_semantics.specs.declared.frames.Frame.{Frame}
+use Rattle.pc_ann.specs.{declared.annotation.Note.Note, declared.annotation.Ann.Ann}
+use Rattle.pc_semantics.specs.{declared.frames.Frame.Frame, Configurations.{blank_object, Around, Move, Makes, first_frame, with_stack}, Calls.make_task}
 use Rattle.pc_semantics.specs.declared.frames.Task.TheVariants as task
-use Rattle.pc_semantics.specs.Configurations.{blank_object, Around, Move, Makes, first_frame, with_stack}
-use Rattle.pc_semantics.specs.Calls.{make_task}
-use Rattle.pc_rules.specs.Parts.{constructs, through}
+use Rattle.pc_rules.specs.{Parts.{constructs, through}, Fields.is_this}
 use Rattle.pc_valid.specs.Words.{before}
-use Rattle.pc_rules.specs.Fields.{is_this}
-use Rattle.pc_lists.proofs.Bools.{false_true}
-use Rattle.pc_types.proofs.Types.{Lower, Want, StackOk}
-use Rattle.pc_types.proofs.Tasks.{FinishOk, makes, TasksOk}
-use Rattle.pc_types.proofs.Frames.{leaves}
-use Rattle.pc_types.proofs.Moves.{MoveOk, Runs}
-use Rattle.pc_types.proofs.Needs.{Needs}
-use Rattle.pc_types.proofs.Basic.{same_lower}
-use Rattle.pc_types.proofs.Notes.{meets}
-use Rattle.pc_types.proofs.Begin.{first_ok}
-use Rattle.pc_types.proofs.Growth.{Extends, arguments_kept, wait_kept}
-use Rattle.pc_types.proofs.Heaps.{fresh_extends}
-use Rattle.pc_types.proofs.Made.{next_free}
-use Rattle.pc_types.proofs.InverseCalls.{MakesRule, result_of, new_of}
-use Rattle.pc_types.proofs.Popped.{Popped, popped_is, take_arguments}
-use Rattle.pc_types.proofs.Callers.{left_within, counts, class_of_new, class_no_trait, not_print, born_this, waits_ok}
-use Rattle.pc_types.proofs.Steps.{Keeps}
+use Rattle.pc_base.proofs.Bools.{false_true}
+use Rattle.pc_types.proofs.{Types.{Lower, Want, StackOk}, Tasks.{FinishOk, makes, TasksOk}, Frames.leaves, Moves.{MoveOk, Runs}, Needs.Needs, Basic.same_lower, Notes.meets, Begin.first_ok, Growth.{Extends, arguments_kept, wait_kept}, Heaps.fresh_extends, Made.next_free, InverseCalls.{MakesRule, result_of, new_of}, Popped.{Popped, popped_is, take_arguments}, Callers.{left_within, counts, class_of_new, class_no_trait, not_print, born_this, waits_ok}, Steps.Keeps}
 
 pub makes_is : (k : NodeKind) → makes k ≡ true → (m : ℕ) × (k ≡ nodes.New m)
 makes_is (nodes.New m) e = (m, refl)

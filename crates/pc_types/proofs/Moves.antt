@@ -1,23 +1,13 @@
 -- What a move of a running actor has to preserve, so that the configuration stays well typed when the move is made. A
 -- move that lacks something preserves nothing.
-use Rattle.std.specs.Prelude.{◌≡◌, ◌≢◌, ℕ, ◌<◌, List, ◌∷◌, Some, slice_get}
-use Rattle.std.specs.FinMap.{get, insert}
-use Rattle.pc_heap.specs.Objects.{ObjectMap, with_value, next_address, Object}
-use Rattle.pc_heap.specs.declared.value.Address.{Address}
-use Rattle.pc_heap.specs.declared.value.Value.{Value}
+use Rattle.std.specs.{Prelude.{◌≡◌, ◌≢◌, ℕ, ◌<◌, List, ◌∷◌, Some, slice_get}, FinMap.{get, insert}}
+use Rattle.pc_heap.specs.{Objects.{ObjectMap, with_value, next_address, Object}, declared.value.Address.Address, declared.value.Value.Value}
 use Rattle.pc_tree.specs.declared.kinds.EntityKind.TheVariants as kind
-use Rattle.pc_core.specs.declared.declarations.EntityDef.{EntityDef}
-use Rattle.pc_core.specs.declared.declarations.FieldInfo.{FieldInfo}
+use Rattle.pc_core.specs.{declared.declarations.EntityDef.EntityDef, declared.declarations.FieldInfo.FieldInfo, CoreData.CoreData}
 use Rattle.pc_core.specs.declared.declarations.MethodKind.TheVariants as method
-use Rattle.pc_core.specs.CoreData.{CoreData}
 use Rattle.pc_ann.specs.declared.annotation.Ann.{Ann}
-use Rattle.pc_semantics.specs.declared.frames.Frame.{Frame}
-use Rattle.pc_semantics.specs.declared.mailbox.Message.{Message}
-use Rattle.pc_semantics.specs.Configurations.{own_address, blank_object, Around, Move, Stuck, Overflows, Goes, Writes, Makes, Spawns, Enters, Sends, Leaves}
-use Rattle.pc_semantics.specs.Step.{left}
-use Rattle.pc_types.proofs.Types.{OfType}
-use Rattle.pc_types.proofs.Frames.{Held, WaitOk, FramesOk}
-use Rattle.pc_types.proofs.Typed.{field_type, ObjectsOk, MessageOk}
+use Rattle.pc_semantics.specs.{declared.frames.Frame.Frame, declared.mailbox.Message.Message, Configurations.{own_address, blank_object, Around, Move, Stuck, Overflows, Goes, Writes, Makes, Spawns, Enters, Sends, Leaves}, Step.left}
+use Rattle.pc_types.proofs.{Types.OfType, Frames.{Held, WaitOk, FramesOk}, Typed.{field_type, ObjectsOk, MessageOk}}
 
 -- A value of the field's type goes to a field of an object, and then the frames go on.
 pub record WriteOk (core : CoreData) (ann : Ann) (objects : ObjectMap) (i : ℕ) (fs : List Frame) (a : Address) (k : ℕ) (v : Value) : Type 0 where

@@ -1,34 +1,17 @@
 -- A core that fits together and a valid annotation give everything that the proof uses.
 use Rattle.std.specs.Prelude.{◌≡◌, ◌≢◌, ℕ, zero, suc, ◌+◌, ◌-◌, ◌<◌, ◌≤◌, true, false, List, [], ◌∷◌, ◌++◌, length, map, Option, Some, None, IsSome, slice_get, refl}
-use Rattle.std.proofs.Common.{inl, inr, ap, sym, subst, ◌∙◌, arith, length-append}
-use Rattle.std.proofs.lemmas.Option.{same_Some, none-some}
-use Rattle.std.proofs.lemmas.List.{length-map}
-use Rattle.pc_lists.proofs.Gets.{get_below, get_within, get_front, get_push, get_append, get_map, get_range, range_get}
+use Rattle.std.proofs.{Common.{inl, inr, ap, sym, subst, ◌∙◌, arith, length-append}, lemmas.Option.{same_Some, none-some}, lemmas.List.length-map}
+use Rattle.pc_base.proofs.{Gets.{get_below, get_within, get_front, get_push, get_append, get_map, get_range, range_get}, Bools.false_true}
 use Rattle.pc_caps.specs.declared.capability.Cap.{Cap}
 use Rattle.pc_tree.specs.Kinds.{is_abstract}
-use Rattle.pc_core.specs.declared.declarations.EntityDef.{EntityDef}
-use Rattle.pc_core.specs.declared.declarations.Method.{Method}
-use Rattle.pc_core.specs.declared.declarations.ParamInfo.{ParamInfo}
-use Rattle.pc_core.specs.declared.nodes.Slot.{Slot}
-use Rattle.pc_core.specs.declared.nodes.Node.{Node}
+use Rattle.pc_core.specs.{declared.declarations.EntityDef.EntityDef, declared.declarations.Method.Method, declared.declarations.ParamInfo.ParamInfo, declared.nodes.Slot.Slot, declared.nodes.Node.Node, CoreData.{CoreData, own_slots, node_end}, Further.own_nodes, Methods.{is_local, SlotsFit, PostOrder}, Entities.{this_slot, param_slot}, Members.method_among, Nodes.{NamesFit, NamesLocal, NamesSlot}, Formed.Formed}
 use Rattle.pc_core.specs.declared.nodes.NodeKind.TheVariants as nodes
-use Rattle.pc_core.specs.CoreData.{CoreData, own_slots, node_end}
-use Rattle.pc_lists.specs.Lists.{Each}
-use Rattle.pc_core.specs.Further.{own_nodes}
-use Rattle.pc_core.specs.Methods.{is_local, SlotsFit, PostOrder}
-use Rattle.pc_core.specs.Entities.{this_slot, param_slot}
-use Rattle.pc_core.specs.Members.{method_among}
-use Rattle.pc_core.specs.Nodes.{NamesFit, NamesLocal, NamesSlot}
-use Rattle.pc_core.specs.Formed.{Formed}
+use Rattle.pc_base.specs.Lists.{Each}
 use Rattle.pc_ann.specs.declared.annotation.Ann.{Ann}
-use Rattle.pc_rules.proofs.ByNumber.{slot_of}
+use Rattle.pc_rules.proofs.{ByNumber.slot_of, Homes.children_before}
 use Rattle.pc_core.proofs.Homes.{Home, home, home_method}
-use Rattle.pc_rules.proofs.Homes.{children_before}
-use Rattle.pc_lists.proofs.Bools.{false_true}
 use Rattle.pc_rules.specs.Checks.{Checks}
-use Rattle.pc_types.proofs.Needs.{IsChild, Needs}
-use Rattle.pc_types.proofs.Notes.{slot_at}
-use Rattle.pc_types.proofs.Declarations.{under_trans, under_no_trait, sub_under, all_declared}
+use Rattle.pc_types.proofs.{Needs.{IsChild, Needs}, Notes.slot_at, Declarations.{under_trans, under_no_trait, sub_under, all_declared}}
 
 -- ---- the children of a node
 

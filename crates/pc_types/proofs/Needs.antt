@@ -2,19 +2,11 @@
 use Rattle.std.specs.Prelude.{◌≡◌, ◌≢◌, ℕ, suc, ◌+◌, ◌≤◌, false, length, Some, slice_get}
 use Rattle.pc_caps.specs.declared.capability.Cap.{Cap}
 use Rattle.pc_tree.specs.Kinds.{is_abstract}
-use Rattle.pc_core.specs.declared.declarations.EntityDef.{EntityDef}
-use Rattle.pc_core.specs.declared.declarations.Method.{Method}
-use Rattle.pc_core.specs.declared.declarations.ParamInfo.{ParamInfo}
-use Rattle.pc_core.specs.declared.nodes.Slot.{Slot}
-use Rattle.pc_core.specs.declared.nodes.Node.{Node}
+use Rattle.pc_core.specs.{declared.declarations.EntityDef.EntityDef, declared.declarations.Method.Method, declared.declarations.ParamInfo.ParamInfo, declared.nodes.Slot.Slot, declared.nodes.Node.Node, CoreData.{CoreData, method_named}, Nodes.NamesSlot, Formed.Formed, Entities.StandsFor}
 use Rattle.pc_core.specs.declared.nodes.NodeKind.TheVariants as nodes
-use Rattle.pc_core.specs.CoreData.{CoreData, method_named}
-use Rattle.pc_lists.specs.Lists.{Each}
-use Rattle.pc_core.specs.Nodes.{NamesSlot}
-use Rattle.pc_core.specs.Formed.{Formed}
+use Rattle.pc_base.specs.Lists.{Each}
 use Rattle.pc_ann.specs.declared.annotation.Ann.{Ann}
 use Rattle.pc_sub.specs.Declarations.{Sub}
-use Rattle.pc_core.specs.Entities.{StandsFor}
 use Rattle.pc_rules.proofs.ByNumber.{slot_of}
 use Rattle.pc_rules.specs.Checks.{Checks}
 use Rattle.pc_types.proofs.Under.{Under}

@@ -1,29 +1,15 @@
 -- The note of a node meets its rule, and what was read of a node or a method is what is there.
-use Rattle.std.specs.Prelude.{◌≡◌, ℕ, ◌+◌, true, Some, nat_eq, slice_get, false, length}
-use Rattle.std.specs.Int.{bit_at}
-use Rattle.std.proofs.Common.{ap, sym, subst, ◌∙◌}
-use Rattle.std.proofs.lemmas.Option.{same_Some}
-use Rattle.std.proofs.lemmas.Bool.{eqb-true}
-use Rattle.pc_lists.proofs.Gets.{get_below}
+use Rattle.std.specs.{Prelude.{◌≡◌, ℕ, ◌+◌, true, Some, nat_eq, slice_get, false, length}, Int.bit_at}
+use Rattle.std.proofs.{Common.{ap, sym, subst, ◌∙◌}, lemmas.Option.same_Some, lemmas.Bool.eqb-true}
+use Rattle.pc_base.proofs.{Gets.get_below, Options.bind_some}
 use Rattle.pc_caps.specs.declared.capability.Cap.{Cap}
-use Rattle.pc_core.specs.declared.declarations.Method.{Method}
-use Rattle.pc_core.specs.declared.nodes.Node.{Node}
-use Rattle.pc_core.specs.declared.nodes.Slot.{Slot}
-use Rattle.pc_core.specs.CoreData.{CoreData}
-use Rattle.pc_lists.proofs.Options.{bind_some}
-use Rattle.pc_masks.specs.declared.mask.Mask.{Mask}
-use Rattle.pc_ann.specs.declared.annotation.Note.{Note}
-use Rattle.pc_ann.specs.declared.annotation.Ann.{Ann}
-use Rattle.pc_masks.specs.Masks.{same}
+use Rattle.pc_core.specs.{declared.declarations.Method.Method, declared.nodes.Node.Node, declared.nodes.Slot.Slot, CoreData.CoreData, Nodes.{NamesFit, HasArity}, declared.nodes.NodeKind.NodeKind}
+use Rattle.pc_masks.specs.{declared.mask.Mask.Mask, Masks.same}
+use Rattle.pc_ann.specs.{declared.annotation.Note.Note, declared.annotation.Ann.Ann}
 use Rattle.pc_valid.specs.Words.{before}
 use Rattle.pc_rules.specs.Rules.{said_by}
-use Rattle.pc_rules.proofs.ByNumber.{slot_of, IsSaid, says}
-use Rattle.pc_rules.proofs.Bridge.{meets_by_number}
-use Rattle.pc_types.proofs.Tasks.{Within}
-use Rattle.pc_types.proofs.Needs.{Needs}
-use Rattle.pc_core.specs.Nodes.{NamesFit, HasArity}
-use Rattle.pc_rules.proofs.Threads.{is_branch, Threaded, threads}
-use Rattle.pc_core.specs.declared.nodes.NodeKind.{NodeKind}
+use Rattle.pc_rules.proofs.{ByNumber.{slot_of, IsSaid, says}, Bridge.meets_by_number, Threads.{is_branch, Threaded, threads}}
+use Rattle.pc_types.proofs.{Tasks.Within, Needs.Needs}
 
 module _ (core : CoreData) (ann : Ann) (needs : Needs core ann) where
   -- A node has a note, which meets its rule.

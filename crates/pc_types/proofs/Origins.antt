@@ -1,38 +1,18 @@
 -- The object whose field a node reads or writes, and what the rules state about that field.
-use Rattle.std.specs.Prelude.{◌≡◌, ℕ, ◌<◌, true, ◌&&◌, List, [], length, Option, Some, None, nat_eq, slice_get, refl}
-use Rattle.std.proofs.Common.{inl, inr, ap, sym, subst, ◌∙◌, arith}
-use Rattle.std.proofs.lemmas.Option.{same_Some, none-some}
-use Rattle.std.proofs.lemmas.Bool.{and_parts, eqb-true}
-use Rattle.std.specs.FinMap.{get}
-use Rattle.pc_heap.specs.Objects.{ObjectMap, Object}
-use Rattle.pc_heap.specs.declared.value.Address.{Address}
-use Rattle.pc_heap.specs.declared.value.Value.{Value}
-use Rattle.pc_heap.specs.declared.value.Value.TheVariants.{At}
-use Rattle.pc_lists.proofs.Gets.{get_below}
-use Rattle.pc_core.specs.declared.declarations.EntityDef.{EntityDef}
-use Rattle.pc_core.specs.declared.declarations.FieldInfo.{FieldInfo}
-use Rattle.pc_core.specs.declared.declarations.Method.{Method}
-use Rattle.pc_core.specs.declared.nodes.Node.{Node}
-use Rattle.pc_core.specs.CoreData.{CoreData, field_named}
+use Rattle.std.specs.{Prelude.{◌≡◌, ℕ, ◌<◌, true, ◌&&◌, List, [], length, Option, Some, None, nat_eq, slice_get, refl}, FinMap.get}
+use Rattle.std.proofs.{Common.{inl, inr, ap, sym, subst, ◌∙◌, arith}, lemmas.Option.{same_Some, none-some}, lemmas.Bool.{and_parts, eqb-true}}
+use Rattle.pc_heap.specs.{Objects.{ObjectMap, Object}, declared.value.Address.Address, declared.value.Value.Value, declared.value.Value.TheVariants.At}
+use Rattle.pc_base.proofs.{Gets.get_below, Options.{bind_some, kept}, Bools.false_true}
+use Rattle.pc_core.specs.{declared.declarations.EntityDef.EntityDef, declared.declarations.FieldInfo.FieldInfo, declared.declarations.Method.Method, declared.nodes.Node.Node, CoreData.{CoreData, field_named}}
 use Rattle.pc_tree.specs.Kinds.{may_have_fields}
 use Rattle.pc_tree.proofs.KindFacts.{concrete}
-use Rattle.pc_lists.proofs.Options.{bind_some, kept}
-use Rattle.pc_masks.specs.declared.mask.Mask.{Mask}
+use Rattle.pc_masks.specs.{declared.mask.Mask.Mask, Masks.IsInMask}
 use Rattle.pc_ann.specs.declared.annotation.Ann.{Ann}
-use Rattle.pc_masks.specs.Masks.{IsInMask}
 use Rattle.pc_semantics.specs.Configurations.{value_entity}
-use Rattle.pc_rules.specs.Parts.{constructs, last_child}
+use Rattle.pc_rules.specs.{Parts.{constructs, last_child}, Fields.{field_of, is_this, lacks_fields}}
 use Rattle.pc_valid.specs.Words.{Ty}
-use Rattle.pc_rules.specs.Fields.{field_of, is_this, lacks_fields}
 use Rattle.pc_rules.proofs.ByNumber.{own_set, incomplete_in, incomplete}
-use Rattle.pc_lists.proofs.Bools.{false_true}
-use Rattle.pc_types.proofs.Types.{Finished, OfKind, OfType}
-use Rattle.pc_types.proofs.Tasks.{gives_this}
-use Rattle.pc_types.proofs.Frames.{HasFields}
-use Rattle.pc_types.proofs.Typed.{ObjectOk, ObjectsOk}
-use Rattle.pc_types.proofs.Needs.{Needs}
-use Rattle.pc_types.proofs.Growth.{object_of}
-use Rattle.pc_types.proofs.Values.{is_address}
+use Rattle.pc_types.proofs.{Types.{Finished, OfKind, OfType}, Tasks.gives_this, Frames.HasFields, Typed.{ObjectOk, ObjectsOk}, Needs.Needs, Growth.object_of, Values.is_address}
 
 -- ---- fields
 

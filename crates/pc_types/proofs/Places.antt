@@ -1,20 +1,13 @@
 -- What goes to a place, and what is taken from it.
 use Rattle.std.specs.Prelude.{◌≡◌, ℕ, true}
-use Rattle.std.proofs.Common.{inl, refl, sym, ◌∙◌}
-use Rattle.std.proofs.lemmas.Bool.{and_parts}
-use Rattle.pc_caps.specs.Tables.{unalias}
-use Rattle.pc_caps.specs.Computed.{fits}
-use Rattle.pc_caps.specs.declared.capability.Cap.{Cap}
+use Rattle.std.proofs.{Common.{inl, refl, sym, ◌∙◌}, lemmas.Bool.and_parts}
+use Rattle.pc_caps.specs.{Tables.unalias, Computed.fits, declared.capability.Cap.Cap}
 use Rattle.pc_core.specs.CoreData.{CoreData}
 use Rattle.pc_ann.specs.declared.annotation.Ann.{Ann}
-use Rattle.pc_sub.specs.Computed.{is_sub}
-use Rattle.pc_sub.specs.Agreement.{is_sub_iff}
+use Rattle.pc_sub.specs.{Computed.is_sub, Agreement.is_sub_iff}
 use Rattle.pc_rules.specs.Parts.{goes_to}
 use Rattle.pc_valid.specs.Words.{Ty}
-use Rattle.pc_types.proofs.Under.{Under}
-use Rattle.pc_types.proofs.Types.{LowerType, held_in}
-use Rattle.pc_types.proofs.Tables.{unalias_sees, fits_sees}
-use Rattle.pc_types.proofs.Needs.{Needs}
+use Rattle.pc_types.proofs.{Under.Under, Types.{LowerType, held_in}, Tables.{unalias_sees, fits_sees}, Needs.Needs}
 
 module _ (core : CoreData) (ann : Ann) (needs : Needs core ann) where
   -- What is found to be below an entity is under it.

@@ -1,29 +1,16 @@
 -- The arguments of a call are taken off the stack: each is a value of its parameter's type.
 use Rattle.std.specs.Prelude.{◌≡◌, ℕ, zero, suc, ◌-◌, true, List, [], ◌∷◌, ◌++◌, take, length, Option, Some, None, slice_get, refl}
-use Rattle.std.proofs.Common.{inl, ap, sym, subst, ◌∙◌, arith}
-use Rattle.std.proofs.lemmas.Option.{same_Some, none-some, some_pair_parts}
-use Rattle.std.proofs.lemmas.Bool.{and_parts}
-use Rattle.std.proofs.lemmas.List.{append-nil}
-use Rattle.pc_heap.specs.Objects.{ObjectMap}
-use Rattle.pc_heap.specs.declared.value.Value.{Value}
-use Rattle.pc_core.specs.declared.declarations.ParamInfo.{ParamInfo}
-use Rattle.pc_core.specs.CoreData.{CoreData}
-use Rattle.pc_lists.specs.Lists.{Each}
+use Rattle.std.proofs.{Common.{inl, ap, sym, subst, ◌∙◌, arith}, lemmas.Option.{same_Some, none-some, some_pair_parts}, lemmas.Bool.and_parts, lemmas.List.append-nil}
+use Rattle.pc_heap.specs.{Objects.ObjectMap, declared.value.Value.Value}
+use Rattle.pc_core.specs.{declared.declarations.ParamInfo.ParamInfo, CoreData.CoreData, Entities.ParamFits}
+use Rattle.pc_base.specs.Lists.{Each}
 use Rattle.pc_ann.specs.declared.annotation.Ann.{Ann}
 use Rattle.pc_semantics.specs.Configurations.{popped}
-use Rattle.pc_rules.specs.Parts.{type_of, last_child}
+use Rattle.pc_rules.specs.{Parts.{type_of, last_child}, Calls.argument_goes}
 use Rattle.pc_valid.specs.Words.{Ty}
-use Rattle.pc_core.specs.Entities.{ParamFits}
-use Rattle.pc_rules.specs.Calls.{argument_goes}
 use Rattle.pc_rules.proofs.ByNumber.{arguments, arguments_go}
-use Rattle.pc_lists.proofs.Bools.{false_true}
-use Rattle.pc_types.proofs.Types.{OfSome, LowerType, param_type, ArgumentsOk, Want, StackOk}
-use Rattle.pc_types.proofs.Tasks.{want_of, stacked}
-use Rattle.pc_types.proofs.Places.{goes_lower}
-use Rattle.pc_types.proofs.Needs.{Needs}
-use Rattle.pc_types.proofs.Basic.{of_lower}
-use Rattle.pc_types.proofs.Tables.{unalias_sees, order_sees}
-use Rattle.pc_types.proofs.Values.{top_is}
+use Rattle.pc_base.proofs.Bools.{false_true}
+use Rattle.pc_types.proofs.{Types.{OfSome, LowerType, param_type, ArgumentsOk, Want, StackOk}, Tasks.{want_of, stacked}, Places.goes_lower, Needs.Needs, Basic.of_lower, Tables.{unalias_sees, order_sees}, Values.top_is}
 
 -- ---- the last child
 

@@ -1,61 +1,24 @@
 -- The task Put: a field is written.
-use Rattle.std.specs.Prelude.{◌≡◌, ◌⊎◌, ℕ, Bool, true, false, ◌&&◌, ◌||◌, not, cond, List, [], ◌∷◌, Option, Some, None, slice_get, slice_set, refl}
-use Rattle.std.proofs.Common.{inl, inr, ap, sym, subst, ◌∙◌}
-use Rattle.std.proofs.lemmas.Option.{same_Some, none-some}
-use Rattle.std.proofs.lemmas.Bool.{and_parts}
-use Rattle.std.proofs.lemmas.Bool.Decides.{eqb_tells}
-use Rattle.std.specs.FinMap.{get}
-use Rattle.pc_heap.specs.Objects.{ObjectMap, with_field, with_value, Object}
-use Rattle.pc_heap.specs.declared.value.Value.{Value}
-use Rattle.pc_heap.specs.declared.value.Value.TheVariants.{At}
-use Rattle.pc_lists.proofs.Gets.{get_within, get_set_same, get_set_other}
-use Rattle.pc_caps.specs.Tables.{taken}
-use Rattle.pc_caps.specs.Computed.{may_write}
-use Rattle.pc_caps.specs.declared.capability.Form.{Form}
+use Rattle.std.specs.{Prelude.{◌≡◌, ◌⊎◌, ℕ, Bool, true, false, ◌&&◌, ◌||◌, not, cond, List, [], ◌∷◌, Option, Some, None, slice_get, slice_set, refl}, FinMap.get}
+use Rattle.std.proofs.{Common.{inl, inr, ap, sym, subst, ◌∙◌}, lemmas.Option.{same_Some, none-some}, lemmas.Bool.and_parts, lemmas.Bool.Decides.eqb_tells}
+use Rattle.pc_heap.specs.{Objects.{ObjectMap, with_field, with_value, Object}, declared.value.Value.Value, declared.value.Value.TheVariants.At}
+use Rattle.pc_base.proofs.{Gets.{get_within, get_set_same, get_set_other}, Options.{bind_some, kept, kept_otherwise}, Bools.false_true}
+use Rattle.pc_caps.specs.{Tables.taken, Computed.may_write, declared.capability.Form.Form}
 use Rattle.pc_caps.specs.declared.capability.Form.TheVariants as form
-use Rattle.pc_core.specs.declared.declarations.FieldInfo.{FieldInfo}
-use Rattle.pc_core.specs.declared.declarations.Method.{Method}
-use Rattle.pc_core.specs.declared.nodes.Node.{Node}
-use Rattle.pc_core.specs.declared.nodes.NodeKind.{NodeKind}
+use Rattle.pc_core.specs.{declared.declarations.FieldInfo.FieldInfo, declared.declarations.Method.Method, declared.nodes.Node.Node, declared.nodes.NodeKind.NodeKind, CoreData.CoreData}
 use Rattle.pc_core.specs.declared.nodes.NodeKind.TheVariants as nodes
-use Rattle.pc_core.specs.CoreData.{CoreData}
-use Rattle.pc_lists.specs.Lists.{◌>>=◌}
-use Rattle.pc_lists.proofs.Options.{bind_some, kept, kept_otherwise}
-use Rattle.pc_masks.specs.declared.mask.Mask.{Mask}
-use Rattle.pc_ann.specs.declared.annotation.Note.{Note}
-use Rattle.pc_ann.specs.declared.annotation.Ann.{Ann}
-use Rattle.pc_ann.specs.declared.annotation.Rule.{Rule}
+use Rattle.pc_base.specs.Lists.{◌>>=◌}
+use Rattle.pc_masks.specs.{declared.mask.Mask.Mask, Masks.{IsInMask, has, with_number}, MaskLaws.with_number_bits}
+use Rattle.pc_ann.specs.{declared.annotation.Note.Note, declared.annotation.Ann.Ann, declared.annotation.Rule.Rule}
 use Rattle.pc_ann.specs.declared.annotation.Rule.TheVariants as rule
-use Rattle.pc_masks.specs.Masks.{IsInMask, has, with_number}
-use Rattle.pc_masks.specs.MaskLaws.{with_number_bits}
-use Rattle.pc_semantics.specs.declared.frames.Frame.{Frame}
+use Rattle.pc_semantics.specs.{declared.frames.Frame.Frame, Configurations.{Around, Move, Writes, with_stack, pushed}, Parts.{value_or_none, put_value, put_field, put_of, put_into}, Calls.put_task}
 use Rattle.pc_semantics.specs.declared.frames.Task.TheVariants as task
-use Rattle.pc_semantics.specs.Configurations.{Around, Move, Writes, with_stack, pushed}
-use Rattle.pc_semantics.specs.Parts.{value_or_none, put_value, put_field, put_of, put_into}
-use Rattle.pc_semantics.specs.Calls.{put_task}
-use Rattle.pc_rules.specs.Parts.{says_of, goes_to, through, type_of, last_child, constructs}
+use Rattle.pc_rules.specs.{Parts.{says_of, goes_to, through, type_of, last_child, constructs}, Fields.{is_this, field_of, own_field, writes, written_field, old_type, own_old, own_writes}, Rules.said_by}
 use Rattle.pc_valid.specs.Words.{Ty, Masks, before, place}
-use Rattle.pc_rules.specs.Fields.{is_this, field_of, own_field, writes, written_field, old_type, own_old, own_writes}
-use Rattle.pc_rules.specs.Rules.{said_by}
 use Rattle.pc_rules.proofs.ByNumber.{two_children, two_types, incomplete, write_says, value_type, own_write_says, says}
-use Rattle.pc_lists.proofs.Bools.{false_true}
-use Rattle.pc_types.proofs.Types.{OfType, OfSome, Answers, StackOk}
+use Rattle.pc_types.proofs.{Types.{OfType, OfSome, Answers, StackOk}, Tasks.{Within, want_of, FinishOk, TasksOk}, Frames.{HasFields, ThisOk}, Moves.{MoveOk, Runs}, Needs.Needs, Basic.{within_trans, of_lower, some_lower}, Growth.{Extends, this_kept, slots_kept, stack_kept, wait_kept}, Heaps.{get_here, written, write_extends}, Tables.{taken_sees, taken_plain}, Steps.Keeps, Running.{fewer_slots, fewer_set, go_in}, Inverse.{pair_is, types_are, Says, said_as, said_type}, Origins.{FieldAt, field_at, Origin, origin_of, origin_at, value_there, set_value, OwnOrigin, own_origin}, Finish.{two_tops, own_is, rule_is, at_this, typed_at, at_tops}, Places.goes_lower}
 use Rattle.pc_types.proofs.Tasks as tasks
-use Rattle.pc_types.proofs.Tasks.{Within, want_of, FinishOk, TasksOk}
-use Rattle.pc_types.proofs.Frames.{HasFields, ThisOk}
 use Rattle.pc_types.proofs.Typed as typed
-use Rattle.pc_types.proofs.Moves.{MoveOk, Runs}
-use Rattle.pc_types.proofs.Needs.{Needs}
-use Rattle.pc_types.proofs.Basic.{within_trans, of_lower, some_lower}
-use Rattle.pc_types.proofs.Growth.{Extends, this_kept, slots_kept, stack_kept, wait_kept}
-use Rattle.pc_types.proofs.Heaps.{get_here, written, write_extends}
-use Rattle.pc_types.proofs.Tables.{taken_sees, taken_plain}
-use Rattle.pc_types.proofs.Steps.{Keeps}
-use Rattle.pc_types.proofs.Running.{fewer_slots, fewer_set, go_in}
-use Rattle.pc_types.proofs.Inverse.{pair_is, types_are, Says, said_as, said_type}
-use Rattle.pc_types.proofs.Origins.{FieldAt, field_at, Origin, origin_of, origin_at, value_there, set_value, OwnOrigin, own_origin}
-use Rattle.pc_types.proofs.Finish.{two_tops, own_is, rule_is, at_this, typed_at, at_tops}
-use Rattle.pc_types.proofs.Places.{goes_lower}
 
 -- ---- what the rules state
 

@@ -1,32 +1,15 @@
 -- A method ends, and leaves what the frame below waits for, or an object that has all its fields.
 use Rattle.std.specs.Prelude.{◌≡◌, ℕ, true, false, List, [], ◌∷◌, Some, slice_get, refl}
-use Rattle.std.proofs.Common.{inl, ap, sym, subst, ◌∙◌}
-use Rattle.std.proofs.lemmas.Option.{same_Some}
-use Rattle.pc_heap.specs.Objects.{ObjectMap}
-use Rattle.pc_heap.specs.declared.value.Value.{Value}
-use Rattle.pc_heap.specs.declared.value.Value.TheVariants.{At}
-use Rattle.pc_core.specs.declared.declarations.Method.{Method}
-use Rattle.pc_core.specs.declared.declarations.MethodKind.{MethodKind}
+use Rattle.std.proofs.{Common.{inl, ap, sym, subst, ◌∙◌}, lemmas.Option.same_Some}
+use Rattle.pc_heap.specs.{Objects.ObjectMap, declared.value.Value.Value, declared.value.Value.TheVariants.At}
+use Rattle.pc_core.specs.{declared.declarations.Method.Method, declared.declarations.MethodKind.MethodKind, CoreData.CoreData, Methods.ResultFits}
 use Rattle.pc_core.specs.declared.declarations.MethodKind.TheVariants as method
-use Rattle.pc_core.specs.CoreData.{CoreData}
-use Rattle.pc_core.specs.Methods.{ResultFits}
 use Rattle.pc_ann.specs.declared.annotation.Ann.{Ann}
-use Rattle.pc_semantics.specs.declared.frames.Frame.{Frame}
+use Rattle.pc_semantics.specs.{declared.frames.Frame.Frame, Configurations.{own_address, Around, value_entity}, Step.left, Calls.leave}
 use Rattle.pc_semantics.specs.declared.frames.Task.TheVariants as task
-use Rattle.pc_semantics.specs.Configurations.{own_address, Around, value_entity}
-use Rattle.pc_semantics.specs.Step.{left}
-use Rattle.pc_semantics.specs.Calls.{leave}
 use Rattle.pc_rules.specs.Parts.{constructs}
-use Rattle.pc_lists.proofs.Bools.{false_true}
-use Rattle.pc_types.proofs.Types.{Finished, OfKind, OfType, Lower, wanted, StackOk}
-use Rattle.pc_types.proofs.Tasks.{ReturnOk}
-use Rattle.pc_types.proofs.Frames.{leaves, LastOk, WaitOk, FramesOk}
-use Rattle.pc_types.proofs.Moves.{MoveOk, Runs}
-use Rattle.pc_types.proofs.Needs.{Needs}
-use Rattle.pc_types.proofs.Basic.{some_lower}
-use Rattle.pc_types.proofs.Values.{top_is}
-use Rattle.pc_types.proofs.Steps.{Keeps}
-use Rattle.pc_types.proofs.AllFields.{all_set}
+use Rattle.pc_base.proofs.Bools.{false_true}
+use Rattle.pc_types.proofs.{Types.{Finished, OfKind, OfType, Lower, wanted, StackOk}, Tasks.ReturnOk, Frames.{leaves, LastOk, WaitOk, FramesOk}, Moves.{MoveOk, Runs}, Needs.Needs, Basic.some_lower, Values.top_is, Steps.Keeps, AllFields.all_set}
 
 -- ---- the frames below
 

@@ -1,25 +1,13 @@
 -- A running frame goes on, with other slots, another stack and other tasks.
 use Rattle.std.specs.Prelude.{◌≡◌, true, List, [], ◌∷◌, ◌++◌, length, Option, slice_get, refl}
 use Rattle.std.proofs.Common.{◌∙◌}
-use Rattle.pc_heap.specs.Objects.{ObjectMap}
-use Rattle.pc_heap.specs.declared.value.Value.{Value}
-use Rattle.pc_heap.specs.declared.value.Value.TheVariants.{Num, Truth, Text, Prim, At}
-use Rattle.pc_core.specs.declared.declarations.Method.{Method}
-use Rattle.pc_core.specs.declared.nodes.Node.{Node}
-use Rattle.pc_core.specs.CoreData.{CoreData}
+use Rattle.pc_heap.specs.{Objects.ObjectMap, declared.value.Value.Value, declared.value.Value.TheVariants.{Num, Truth, Text, Prim, At}}
+use Rattle.pc_core.specs.{declared.declarations.Method.Method, declared.nodes.Node.Node, CoreData.CoreData}
 use Rattle.pc_masks.specs.declared.mask.Mask.{Mask}
-use Rattle.pc_ann.specs.declared.annotation.Note.{Note}
-use Rattle.pc_ann.specs.declared.annotation.Ann.{Ann}
-use Rattle.pc_semantics.specs.declared.frames.Frame.{Frame}
-use Rattle.pc_semantics.specs.declared.frames.Task.{Task}
-use Rattle.pc_semantics.specs.Configurations.{Around, with_stack, pushed}
+use Rattle.pc_ann.specs.{declared.annotation.Note.Note, declared.annotation.Ann.Ann}
+use Rattle.pc_semantics.specs.{declared.frames.Frame.Frame, declared.frames.Task.Task, Configurations.{Around, with_stack, pushed}}
 use Rattle.pc_rules.specs.Fields.{is_this}
-use Rattle.pc_types.proofs.Types.{OfSome, Want, StackOk}
-use Rattle.pc_types.proofs.Tasks.{Within, Follows, TasksOk}
-use Rattle.pc_types.proofs.Frames.{HasFields, ThisOk, SlotsOk, FrameOk, WaitOk, FramesOk}
-use Rattle.pc_types.proofs.Moves.{Runs}
-use Rattle.pc_types.proofs.Needs.{Needs}
-use Rattle.pc_types.proofs.Basic.{within_trans, some_lower}
+use Rattle.pc_types.proofs.{Types.{OfSome, Want, StackOk}, Tasks.{Within, Follows, TasksOk}, Frames.{HasFields, ThisOk, SlotsOk, FrameOk, WaitOk, FramesOk}, Moves.Runs, Needs.Needs, Basic.{within_trans, some_lower}}
 
 -- ---- fewer slots, and fewer fields
 

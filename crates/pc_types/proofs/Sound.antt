@@ -1,14 +1,8 @@
 -- From a valid annotation to every step of every schedule: nothing is lacking.
-use Rattle.pc_semantics.specs.Configurations.{start}
-use Rattle.pc_semantics.specs.Step.{after}
+use Rattle.pc_semantics.specs.{Configurations.start, Step.after}
 use Rattle.pc_rules.proofs.Derivations.{to_valid}
 use Rattle.pc_types.specs.Laws.{AcceptedNeverLacks}
-use Rattle.pc_types.proofs.Needs.{Needs}
-use Rattle.pc_types.proofs.Needed.{needed}
-use Rattle.pc_types.proofs.Steps.{step_ok, run_ok}
-use Rattle.pc_types.proofs.AllTasks.{keeps}
-use Rattle.pc_types.proofs.Takes.{takes}
-use Rattle.pc_types.proofs.Starts.{start_typed}
+use Rattle.pc_types.proofs.{Needs.Needs, Needed.needed, Steps.{step_ok, run_ok}, AllTasks.keeps, Takes.takes, Starts.start_typed}
 
 pub accepted_never_lacks : AcceptedNeverLacks
 accepted_never_lacks core ann formed valid list i l =

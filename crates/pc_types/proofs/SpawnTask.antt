@@ -1,47 +1,20 @@
 -- An actor is made, and its constructor's message waits.
-use Rattle.std.specs.Prelude.{◌≡◌, ◌≢◌, ℕ, ◌+◌, ◌<◌, true, List, Option, Some, length, slice_get, refl}
-use Rattle.std.proofs.Common.{inl, ap, sym, subst, ◌∙◌, arith}
-use Rattle.std.proofs.lemmas.Option.{same_Some}
-use Rattle.std.specs.FinMap.{insert}
-use Rattle.pc_heap.specs.Objects.{ObjectMap, Object}
-use Rattle.pc_heap.specs.declared.value.Address.{Address}
-use Rattle.pc_heap.specs.declared.value.Value.{Value}
-use Rattle.pc_heap.specs.declared.value.Value.TheVariants.{At}
+use Rattle.std.specs.{Prelude.{◌≡◌, ◌≢◌, ℕ, ◌+◌, ◌<◌, true, List, Option, Some, length, slice_get, refl}, FinMap.insert}
+use Rattle.std.proofs.{Common.{inl, ap, sym, subst, ◌∙◌, arith}, lemmas.Option.same_Some}
+use Rattle.pc_heap.specs.{Objects.{ObjectMap, Object}, declared.value.Address.Address, declared.value.Value.Value, declared.value.Value.TheVariants.At}
 use Rattle.pc_tree.specs.declared.kinds.EntityKind.TheVariants as kind
 use Rattle.pc_caps.specs.declared.capability.Form.TheVariants as form
-use Rattle.pc_core.specs.declared.declarations.EntityDef.{EntityDef}
-use Rattle.pc_core.specs.declared.declarations.Method.{Method}
+use Rattle.pc_core.specs.{declared.declarations.EntityDef.EntityDef, declared.declarations.Method.Method, declared.nodes.Node.Node, declared.nodes.NodeKind.NodeKind, CoreData.CoreData, Nodes.NamesFit, Further.NamesMethod}
 use Rattle.pc_core.specs.declared.declarations.MethodKind.TheVariants as method
-use Rattle.pc_core.specs.declared.nodes.Node.{Node}
-use Rattle.pc_core.specs.declared.nodes.NodeKind.{NodeKind}
 use Rattle.pc_core.specs.declared.nodes.NodeKind.TheVariants as nodes
-use Rattle.pc_core.specs.CoreData.{CoreData}
 use Rattle.pc_tree.specs.Kinds.{may_have_fields}
-use Rattle.pc_core.specs.Nodes.{NamesFit}
-use Rattle.pc_core.specs.Further.{NamesMethod}
-use Rattle.pc_ann.specs.declared.annotation.Note.{Note}
-use Rattle.pc_ann.specs.declared.annotation.Ann.{Ann}
-use Rattle.pc_semantics.specs.declared.frames.Frame.{Frame}
+use Rattle.pc_ann.specs.{declared.annotation.Note.Note, declared.annotation.Ann.Ann}
+use Rattle.pc_semantics.specs.{declared.frames.Frame.Frame, Configurations.{own_address, blank_object, Around, Move, Spawns, with_stack, pushed}, Calls.spawn_task}
 use Rattle.pc_semantics.specs.declared.frames.Task.TheVariants as task
-use Rattle.pc_semantics.specs.Configurations.{own_address, blank_object, Around, Move, Spawns, with_stack, pushed}
-use Rattle.pc_semantics.specs.Calls.{spawn_task}
-use Rattle.pc_rules.specs.Parts.{through}
+use Rattle.pc_rules.specs.{Parts.through, Fields.is_this}
 use Rattle.pc_valid.specs.Words.{Ty, before}
-use Rattle.pc_rules.specs.Fields.{is_this}
-use Rattle.pc_lists.proofs.Bools.{false_true}
-use Rattle.pc_types.proofs.Types.{OfType, OfSome, Want, StackOk}
-use Rattle.pc_types.proofs.Tasks.{FinishOk, spawns, TasksOk}
-use Rattle.pc_types.proofs.Moves.{MoveOk, Runs}
-use Rattle.pc_types.proofs.Needs.{Needs}
-use Rattle.pc_types.proofs.Notes.{meets}
-use Rattle.pc_types.proofs.Growth.{Extends, class_is, stack_kept, arguments_kept, held_kept, wait_kept}
-use Rattle.pc_types.proofs.Heaps.{get_here, fresh_extends}
-use Rattle.pc_types.proofs.Made.{own_free, spawn_objects}
-use Rattle.pc_types.proofs.Running.{push_ok}
-use Rattle.pc_types.proofs.InverseCalls.{MakesRule, actor_of, spawn_of}
-use Rattle.pc_types.proofs.Popped.{Popped, popped_is, take_arguments}
-use Rattle.pc_types.proofs.Callers.{left_within, counts, actor_of_spawn, not_print}
-use Rattle.pc_types.proofs.Steps.{Keeps}
+use Rattle.pc_base.proofs.Bools.{false_true}
+use Rattle.pc_types.proofs.{Types.{OfType, OfSome, Want, StackOk}, Tasks.{FinishOk, spawns, TasksOk}, Moves.{MoveOk, Runs}, Needs.Needs, Notes.meets, Growth.{Extends, class_is, stack_kept, arguments_kept, held_kept, wait_kept}, Heaps.{get_here, fresh_extends}, Made.{own_free, spawn_objects}, Running.push_ok, InverseCalls.{MakesRule, actor_of, spawn_of}, Popped.{Popped, popped_is, take_arguments}, Callers.{left_within, counts, actor_of_spawn, not_print}, Steps.Keeps}
 
 pub spawns_is : (k : NodeKind) → spawns k ≡ true → (m : ℕ) × (k ≡ nodes.Spawn m)
 spawns_is (nodes.Spawn m) e = (m, refl)

@@ -1,44 +1,18 @@
 -- The configuration in which a program begins is well typed.
-use Rattle.std.specs.Prelude.{◌≡◌, ◌≢◌, ℕ, zero, suc, ◌+◌, ◌<◌, Bool, true, false, cond, not, List, [], ◌∷◌, map, length, Option, Some, None, nat_lt, slice_get, codes, position, refl}
-use Rattle.std.specs.List.{position_or_len}
-use Rattle.std.specs.Str.{bytes_eq}
-use Rattle.std.proofs.Common.{inl, inr, ap, sym, subst, ◌∙◌, arith}
-use Rattle.std.proofs.lemmas.Option.{same_Some, none-some}
-use Rattle.std.proofs.lemmas.Bool.{lt-ltb}
-use Rattle.std.proofs.lemmas.Slice.Eq.{bytes_eq-Decides}
-use Rattle.std.specs.FinMap.{empty, get, insert, get-empty}
-use Rattle.pc_heap.specs.Objects.{address_cmp, ObjectMap, made_by, new_object, with_field, Object}
-use Rattle.pc_heap.specs.declared.value.Address.{Address}
-use Rattle.pc_heap.specs.declared.value.Value.{Value}
-use Rattle.pc_heap.specs.declared.value.Value.TheVariants.{At}
-use Rattle.pc_lists.proofs.Gets.{get_below, get_map}
-use Rattle.pc_caps.specs.Tables.{plain}
-use Rattle.pc_caps.specs.declared.capability.Cap.{Cap}
+use Rattle.std.specs.{Prelude.{◌≡◌, ◌≢◌, ℕ, zero, suc, ◌+◌, ◌<◌, Bool, true, false, cond, not, List, [], ◌∷◌, map, length, Option, Some, None, nat_lt, slice_get, codes, position, refl}, List.position_or_len, Str.bytes_eq, FinMap.{empty, get, insert, get-empty}}
+use Rattle.std.proofs.{Common.{inl, inr, ap, sym, subst, ◌∙◌, arith}, lemmas.Option.{same_Some, none-some}, lemmas.Bool.lt-ltb, lemmas.Slice.Eq.bytes_eq-Decides}
+use Rattle.pc_heap.specs.{Objects.{address_cmp, ObjectMap, made_by, new_object, with_field, Object}, declared.value.Address.Address, declared.value.Value.Value, declared.value.Value.TheVariants.At}
+use Rattle.pc_base.proofs.{Gets.{get_below, get_map}, Bools.false_true}
+use Rattle.pc_caps.specs.{Tables.plain, declared.capability.Cap.Cap}
 use Rattle.pc_caps.specs.declared.capability.Form.TheVariants as form
 use Rattle.pc_tree.specs.declared.kinds.EntityKind.TheVariants as kind
-use Rattle.pc_core.specs.declared.declarations.EntityDef.{EntityDef}
-use Rattle.pc_core.specs.declared.declarations.FieldInfo.{FieldInfo}
+use Rattle.pc_core.specs.{declared.declarations.EntityDef.EntityDef, declared.declarations.FieldInfo.FieldInfo, declared.declarations.ParamInfo.ParamInfo, CoreData.{CoreData, method_named}, Entities.out_field, Formed.Formed}
 use Rattle.pc_core.specs.declared.declarations.MethodKind.TheVariants as method
-use Rattle.pc_core.specs.declared.declarations.ParamInfo.{ParamInfo}
-use Rattle.pc_core.specs.CoreData.{CoreData, method_named}
-use Rattle.pc_lists.specs.Lists.{Differ}
-use Rattle.pc_core.specs.Entities.{out_field}
-use Rattle.pc_core.specs.Formed.{Formed}
+use Rattle.pc_base.specs.Lists.{Differ}
 use Rattle.pc_ann.specs.declared.annotation.Ann.{Ann}
-use Rattle.pc_lists.proofs.Bools.{false_true}
 use Rattle.pc_rules.specs.Checks.{Checks}
-use Rattle.pc_semantics.specs.declared.actors.Actor.{Actor}
-use Rattle.pc_semantics.specs.Configurations.{own_address, main_create, blank_object, environment, environment_address, start_of, start}
-use Rattle.pc_semantics.specs.Parts.{number_of_entity, number_of_fields}
-use Rattle.pc_types.proofs.Types.{Finished, OfType, ArgumentsOk}
-use Rattle.pc_types.proofs.Typed.{field_type, ObjectOk, PlaceOk, ObjectsOk, ActorOk, WellTyped}
-use Rattle.pc_types.proofs.Needs.{Needs}
-use Rattle.pc_types.proofs.Growth.{Extends, class_is, class_kept, finished_kept}
-use Rattle.pc_types.proofs.Heaps.{get_after, get_here, put_or_before, fresh_extends, made_here}
-use Rattle.pc_types.proofs.Made.{blank_ok, add_objects, own_free, spawn_objects}
-use Rattle.pc_types.proofs.Callers.{not_print}
-use Rattle.pc_types.proofs.Declarations.{found_is}
-use Rattle.pc_types.proofs.Needed.{needed}
+use Rattle.pc_semantics.specs.{declared.actors.Actor.Actor, Configurations.{own_address, main_create, blank_object, environment, environment_address, start_of, start}, Parts.{number_of_entity, number_of_fields}}
+use Rattle.pc_types.proofs.{Types.{Finished, OfType, ArgumentsOk}, Typed.{field_type, ObjectOk, PlaceOk, ObjectsOk, ActorOk, WellTyped}, Needs.Needs, Growth.{Extends, class_is, class_kept, finished_kept}, Heaps.{get_after, get_here, put_or_before, fresh_extends, made_here}, Made.{blank_ok, add_objects, own_free, spawn_objects}, Callers.not_print, Declarations.found_is, Needed.needed}
 
 -- ---- the place of a name
 

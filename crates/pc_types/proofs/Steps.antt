@@ -1,28 +1,13 @@
 -- From what each task preserves to every schedule.
 use Rattle.std.specs.Prelude.{◌≡◌, ◌⊎◌, ℕ, ◌<◌, List, [], ◌∷◌, length, Option, Some, None, slice_get, refl}
 use Rattle.std.proofs.Common.{inl, inr, sym, subst, ◌∙◌}
-use Rattle.pc_lists.proofs.Gets.{get_below}
-use Rattle.pc_core.specs.declared.declarations.MethodKind.{MethodKind}
+use Rattle.pc_base.proofs.Gets.{get_below}
+use Rattle.pc_core.specs.{declared.declarations.MethodKind.MethodKind, CoreData.CoreData}
 use Rattle.pc_core.specs.declared.declarations.MethodKind.TheVariants as method
-use Rattle.pc_core.specs.CoreData.{CoreData}
 use Rattle.pc_ann.specs.declared.annotation.Ann.{Ann}
-use Rattle.pc_semantics.specs.declared.actors.Actor.{Actor}
-use Rattle.pc_semantics.specs.declared.frames.Frame.{Frame}
-use Rattle.pc_semantics.specs.declared.frames.Task.{Task}
-use Rattle.pc_semantics.specs.declared.mailbox.Message.{Message}
-use Rattle.pc_semantics.specs.declared.outcome.Outcome.{Outcome}
-use Rattle.pc_semantics.specs.declared.outcome.Outcome.TheVariants.{Moved, Skipped, Lacks, TooLong}
-use Rattle.pc_semantics.specs.Configurations.{Configuration, own_address, Around}
+use Rattle.pc_semantics.specs.{declared.actors.Actor.Actor, declared.frames.Frame.Frame, declared.frames.Task.Task, declared.mailbox.Message.Message, declared.outcome.Outcome.Outcome, declared.outcome.Outcome.TheVariants.{Moved, Skipped, Lacks, TooLong}, Configurations.{Configuration, own_address, Around}, Step.{task_move, around, take, take_first, run_frames, step, followed, run_from}, Parts.{run_task, step_of}}
 use Rattle.pc_heap.specs.declared.value.Value.TheVariants.{At}
-use Rattle.pc_semantics.specs.Step.{task_move, around, take, take_first, run_frames, step, followed, run_from}
-use Rattle.pc_semantics.specs.Parts.{run_task, step_of}
-use Rattle.pc_types.proofs.Types.{Finished}
-use Rattle.pc_types.proofs.Tasks.{TasksOk}
-use Rattle.pc_types.proofs.Frames.{FrameOk, WaitOk, FramesOk}
-use Rattle.pc_types.proofs.Typed.{MessageOk, MailOk, FirstMailOk, ActorOk, WellTyped}
-use Rattle.pc_types.proofs.Moves.{MoveOk, Runs}
-use Rattle.pc_types.proofs.Needs.{Needs}
-use Rattle.pc_types.proofs.Made.{StepOk, made_ok}
+use Rattle.pc_types.proofs.{Types.Finished, Tasks.TasksOk, Frames.{FrameOk, WaitOk, FramesOk}, Typed.{MessageOk, MailOk, FirstMailOk, ActorOk, WellTyped}, Moves.{MoveOk, Runs}, Needs.Needs, Made.{StepOk, made_ok}}
 
 -- ---- what is to be shown of each task, and of the first message
 

@@ -1,55 +1,20 @@
 -- The task Store: a definition or an assignment of a slot.
 use Rattle.std.specs.Prelude.{◌≡◌, ◌⊎◌, ℕ, ◌+◌, ◌<◌, Bool, true, false, ◌&&◌, cond, List, [], ◌∷◌, length, Option, Some, None, slice_get, slice_set, refl}
-use Rattle.std.proofs.Common.{inl, inr, ap, sym, subst, ◌∙◌, length-set}
-use Rattle.std.proofs.lemmas.Option.{same_Some, none-some}
-use Rattle.std.proofs.lemmas.Bool.{and_parts}
-use Rattle.std.proofs.lemmas.Bool.Decides.{eqb_tells}
+use Rattle.std.proofs.{Common.{inl, inr, ap, sym, subst, ◌∙◌, length-set}, lemmas.Option.{same_Some, none-some}, lemmas.Bool.and_parts, lemmas.Bool.Decides.eqb_tells}
 use Rattle.pc_heap.specs.declared.value.Value.{Value}
-use Rattle.pc_lists.proofs.Gets.{get_set_same, get_set_other}
-use Rattle.pc_caps.specs.Tables.{unalias}
-use Rattle.pc_caps.specs.declared.capability.Cap.{Cap}
-use Rattle.pc_core.specs.declared.declarations.Method.{Method}
-use Rattle.pc_core.specs.declared.nodes.Node.{Node}
-use Rattle.pc_core.specs.declared.nodes.NodeKind.{NodeKind}
+use Rattle.pc_base.proofs.{Gets.{get_set_same, get_set_other}, Options.{bind_some, kept}, Bools.false_true}
+use Rattle.pc_caps.specs.{Tables.unalias, declared.capability.Cap.Cap}
+use Rattle.pc_core.specs.{declared.declarations.Method.Method, declared.nodes.Node.Node, declared.nodes.NodeKind.NodeKind, declared.nodes.Slot.Slot, CoreData.CoreData, Nodes.NamesSlot}
 use Rattle.pc_core.specs.declared.nodes.NodeKind.TheVariants as nodes
-use Rattle.pc_core.specs.declared.nodes.Slot.{Slot}
-use Rattle.pc_core.specs.CoreData.{CoreData}
-use Rattle.pc_lists.proofs.Options.{bind_some, kept}
-use Rattle.pc_core.specs.Nodes.{NamesSlot}
-use Rattle.pc_masks.specs.declared.mask.Mask.{Mask}
-use Rattle.pc_ann.specs.declared.annotation.Note.{Note}
-use Rattle.pc_ann.specs.declared.annotation.Ann.{Ann}
-use Rattle.pc_ann.specs.declared.annotation.Rule.{Rule}
+use Rattle.pc_masks.specs.{declared.mask.Mask.Mask, Masks.{IsInMask, has, with_number}, MaskLaws.with_number_bits}
+use Rattle.pc_ann.specs.{declared.annotation.Note.Note, declared.annotation.Ann.Ann, declared.annotation.Rule.Rule}
 use Rattle.pc_ann.specs.declared.annotation.Rule.TheVariants as rule
-use Rattle.pc_masks.specs.Masks.{IsInMask, has, with_number}
-use Rattle.pc_masks.specs.MaskLaws.{with_number_bits}
-use Rattle.pc_semantics.specs.declared.frames.Frame.{Frame}
+use Rattle.pc_semantics.specs.{declared.frames.Frame.Frame, Configurations.{Around, with_stack}, Parts.{value_or_none, held}, Calls.{store, store_task}}
 use Rattle.pc_semantics.specs.declared.frames.Task.TheVariants as task
-use Rattle.pc_semantics.specs.Configurations.{Around, with_stack}
-use Rattle.pc_semantics.specs.Parts.{value_or_none, held}
-use Rattle.pc_semantics.specs.Calls.{store, store_task}
-use Rattle.pc_rules.specs.Parts.{goes_to, reachable, through, type_of, one_child}
+use Rattle.pc_rules.specs.{Parts.{goes_to, reachable, through, type_of, one_child}, Fields.is_this, Values.{same_place, defined_type, defines, is_var, old_value, assigns}, Rules.said_by}
 use Rattle.pc_valid.specs.Words.{Ty, Masks, before}
-use Rattle.pc_rules.specs.Fields.{is_this}
-use Rattle.pc_rules.specs.Values.{same_place, defined_type, defines, is_var, old_value, assigns}
-use Rattle.pc_rules.specs.Rules.{said_by}
-use Rattle.pc_rules.proofs.ByNumber.{slot_of, defined, assigned, define_says, assign_says, says}
-use Rattle.pc_lists.proofs.Bools.{false_true}
-use Rattle.pc_rules.proofs.OneRule.{define_rule}
-use Rattle.pc_types.proofs.Types.{OfType, OfSome, held_in, StackOk}
-use Rattle.pc_types.proofs.Tasks.{Within, stores, FinishOk, TasksOk}
-use Rattle.pc_types.proofs.Frames.{SlotsOk}
-use Rattle.pc_types.proofs.Moves.{MoveOk, Runs}
-use Rattle.pc_types.proofs.Needs.{Needs}
-use Rattle.pc_types.proofs.Basic.{within_trans, of_lower, some_lower}
-use Rattle.pc_types.proofs.Notes.{slot_at, names_fit}
-use Rattle.pc_types.proofs.Begin.{only_one}
-use Rattle.pc_types.proofs.Steps.{Keeps}
-use Rattle.pc_types.proofs.Running.{go_ok}
-use Rattle.pc_types.proofs.Inverse.{Says, says_is}
-use Rattle.pc_types.proofs.EvalValue.{not_zero}
-use Rattle.pc_types.proofs.Places.{goes_lower, taken_lower}
-use Rattle.pc_types.proofs.Finish.{one_top, own_is, rule_is, at_this, typed_at, at_top}
+use Rattle.pc_rules.proofs.{ByNumber.{slot_of, defined, assigned, define_says, assign_says, says}, OneRule.define_rule}
+use Rattle.pc_types.proofs.{Types.{OfType, OfSome, held_in, StackOk}, Tasks.{Within, stores, FinishOk, TasksOk}, Frames.SlotsOk, Moves.{MoveOk, Runs}, Needs.Needs, Basic.{within_trans, of_lower, some_lower}, Notes.{slot_at, names_fit}, Begin.only_one, Steps.Keeps, Running.go_ok, Inverse.{Says, says_is}, EvalValue.not_zero, Places.{goes_lower, taken_lower}, Finish.{one_top, own_is, rule_is, at_this, typed_at, at_top}}
 
 -- ---- what the rules state
 

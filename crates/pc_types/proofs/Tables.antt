@@ -1,15 +1,10 @@
 -- Of the tables: nothing sees more than what it comes from.
 use Rattle.std.specs.Prelude.{◌≡◌, true, false, Option, Some, None, refl}
-use Rattle.std.proofs.Common.{ap, ◌∙◌}
-use Rattle.std.proofs.lemmas.Option.{same_Some, none-some}
-use Rattle.pc_caps.specs.Tables.{IsBelow, plain, unalias, view, taken, lift}
-use Rattle.pc_caps.specs.Computed.{is_below, fits}
-use Rattle.pc_caps.specs.Closure.{below_iff}
-use Rattle.pc_caps.specs.declared.capability.Cap.{Cap}
+use Rattle.std.proofs.{Common.{ap, ◌∙◌}, lemmas.Option.{same_Some, none-some}}
+use Rattle.pc_caps.specs.{Tables.{IsBelow, plain, unalias, view, taken, lift}, Computed.{is_below, fits}, Closure.below_iff, declared.capability.Cap.Cap, declared.capability.Form.Form}
 use Rattle.pc_caps.specs.declared.capability.Cap.TheVariants as cap
-use Rattle.pc_caps.specs.declared.capability.Form.{Form}
 use Rattle.pc_caps.specs.declared.capability.Form.TheVariants as form
-use Rattle.pc_lists.proofs.Options.{kept}
+use Rattle.pc_base.proofs.Options.{kept}
 use Rattle.pc_rules.specs.Control.{recovered}
 use Rattle.pc_types.proofs.Types.{sees}
 

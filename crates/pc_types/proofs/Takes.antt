@@ -1,33 +1,15 @@
 -- An idle actor takes its first message: the stream prints a text, and another actor begins the method.
 use Rattle.std.specs.Prelude.{◌≡◌, ◌≢◌, ◌⊎◌, ℕ, zero, suc, ◌<◌, List, [], ◌∷◌, Some, slice_get, refl}
-use Rattle.std.proofs.Common.{inl, inr, ap, sym, subst, ◌∙◌, arith}
-use Rattle.std.proofs.lemmas.Option.{same_Some}
-use Rattle.pc_heap.specs.declared.value.Value.{Value}
-use Rattle.pc_heap.specs.declared.value.Value.TheVariants.{At}
+use Rattle.std.proofs.{Common.{inl, inr, ap, sym, subst, ◌∙◌, arith}, lemmas.Option.same_Some}
+use Rattle.pc_heap.specs.{declared.value.Value.Value, declared.value.Value.TheVariants.At}
 use Rattle.pc_caps.specs.declared.capability.Form.TheVariants as form
-use Rattle.pc_core.specs.declared.declarations.Method.{Method}
-use Rattle.pc_core.specs.declared.declarations.MethodKind.{MethodKind}
+use Rattle.pc_core.specs.{declared.declarations.Method.Method, declared.declarations.MethodKind.MethodKind, CoreData.CoreData, Entities.print_method}
 use Rattle.pc_core.specs.declared.declarations.MethodKind.TheVariants as method
-use Rattle.pc_core.specs.CoreData.{CoreData}
-use Rattle.pc_core.specs.Entities.{print_method}
 use Rattle.pc_ann.specs.declared.annotation.Ann.{Ann}
-use Rattle.pc_semantics.specs.declared.mailbox.Message.{Message}
-use Rattle.pc_semantics.specs.Configurations.{Configuration, with_actor, own_address, first_frame}
-use Rattle.pc_semantics.specs.Step.{printed_text}
-use Rattle.pc_semantics.specs.Parts.{begin_method}
-use Rattle.pc_rules.specs.Parts.{constructs}
-use Rattle.pc_rules.specs.Control.{start_set}
-use Rattle.pc_lists.proofs.Bools.{false_true}
-use Rattle.pc_types.proofs.Types.{Finished, ArgumentsOk}
-use Rattle.pc_types.proofs.Frames.{ThisOk, LastOk}
-use Rattle.pc_types.proofs.Typed.{MessageOk, MailOk, WellTyped}
-use Rattle.pc_types.proofs.Needs.{Needs}
-use Rattle.pc_types.proofs.Values.{is_text, own_no_trait}
-use Rattle.pc_types.proofs.Begin.{first_ok}
-use Rattle.pc_types.proofs.Growth.{object_of}
-use Rattle.pc_types.proofs.Made.{StepOk, actor_typed, frames_typed}
-use Rattle.pc_types.proofs.Callers.{nothing_set}
-use Rattle.pc_types.proofs.Steps.{Takes}
+use Rattle.pc_semantics.specs.{declared.mailbox.Message.Message, Configurations.{Configuration, with_actor, own_address, first_frame}, Step.printed_text, Parts.begin_method}
+use Rattle.pc_rules.specs.{Parts.constructs, Control.start_set}
+use Rattle.pc_base.proofs.Bools.{false_true}
+use Rattle.pc_types.proofs.{Types.{Finished, ArgumentsOk}, Frames.{ThisOk, LastOk}, Typed.{MessageOk, MailOk, WellTyped}, Needs.Needs, Values.{is_text, own_no_trait}, Begin.first_ok, Growth.object_of, Made.{StepOk, actor_typed, frames_typed}, Callers.nothing_set, Steps.Takes}
 
 no_spawn : (k : MethodKind) → k ≡ method.Be → k ≡ method.Spawn → ⊥
 no_spawn k b s = let bad : method.Be ≡ method.Spawn = sym b ∙ s in cc

@@ -3,21 +3,15 @@
 use Rattle.std.specs.Prelude.{◌≡◌, ◌⊎◌, ℕ, Bool, true, false, List, [], ◌∷◌, Option, Some, None, slice_get}
 use Rattle.pc_caps.specs.declared.capability.Form.{Form}
 use Rattle.pc_caps.specs.declared.capability.Form.TheVariants as form
-use Rattle.pc_core.specs.declared.declarations.Method.{Method}
+use Rattle.pc_core.specs.{declared.declarations.Method.Method, declared.nodes.Node.Node, declared.nodes.NodeKind.NodeKind, CoreData.CoreData}
 use Rattle.pc_core.specs.declared.declarations.MethodKind.TheVariants as method
-use Rattle.pc_core.specs.declared.nodes.Node.{Node}
-use Rattle.pc_core.specs.declared.nodes.NodeKind.{NodeKind}
 use Rattle.pc_core.specs.declared.nodes.NodeKind.TheVariants as nodes
-use Rattle.pc_core.specs.CoreData.{CoreData}
-use Rattle.pc_masks.specs.declared.mask.Mask.{Mask}
-use Rattle.pc_ann.specs.declared.annotation.Note.{Note}
-use Rattle.pc_ann.specs.declared.annotation.Ann.{Ann}
-use Rattle.pc_masks.specs.Masks.{IsInMask}
+use Rattle.pc_masks.specs.{declared.mask.Mask.Mask, Masks.IsInMask}
+use Rattle.pc_ann.specs.{declared.annotation.Note.Note, declared.annotation.Ann.Ann}
 use Rattle.pc_semantics.specs.declared.frames.Task.{Task}
 use Rattle.pc_semantics.specs.declared.frames.Task.TheVariants as task
-use Rattle.pc_rules.specs.Parts.{constructs, all_fields, through, type_of}
+use Rattle.pc_rules.specs.{Parts.{constructs, all_fields, through, type_of}, Fields.is_this}
 use Rattle.pc_valid.specs.Words.{Masks, before}
-use Rattle.pc_rules.specs.Fields.{is_this}
 use Rattle.pc_types.proofs.Types.{Lower, Want, wanted}
 
 -- ---- masks

@@ -1,26 +1,15 @@
 -- When a configuration is well typed: each object holds values of its fields' types, each actor's frames can go on, and
 -- the messages that wait for it are behaviours of its entity, after its constructor if that has not begun.
-use Rattle.std.specs.Prelude.{◌≡◌, ◌⊎◌, ℕ, ◌<◌, true, List, [], ◌∷◌, length, Some, slice_get}
-use Rattle.std.specs.FinMap.{get}
-use Rattle.pc_heap.specs.Objects.{ObjectMap, class_at, made_by, Object}
-use Rattle.pc_heap.specs.declared.value.Address.{Address}
-use Rattle.pc_heap.specs.declared.value.Value.{Value}
-use Rattle.pc_caps.specs.Tables.{plain}
-use Rattle.pc_caps.specs.declared.capability.Form.{Form}
+use Rattle.std.specs.{Prelude.{◌≡◌, ◌⊎◌, ℕ, ◌<◌, true, List, [], ◌∷◌, length, Some, slice_get}, FinMap.get}
+use Rattle.pc_heap.specs.{Objects.{ObjectMap, class_at, made_by, Object}, declared.value.Address.Address, declared.value.Value.Value}
+use Rattle.pc_caps.specs.{Tables.plain, declared.capability.Form.Form}
 use Rattle.pc_tree.specs.declared.kinds.EntityKind.TheVariants as kind
-use Rattle.pc_core.specs.declared.declarations.EntityDef.{EntityDef}
-use Rattle.pc_core.specs.declared.declarations.FieldInfo.{FieldInfo}
-use Rattle.pc_core.specs.declared.declarations.Method.{Method}
-use Rattle.pc_core.specs.declared.declarations.MethodKind.{MethodKind}
+use Rattle.pc_core.specs.{declared.declarations.EntityDef.EntityDef, declared.declarations.FieldInfo.FieldInfo, declared.declarations.Method.Method, declared.declarations.MethodKind.MethodKind, CoreData.CoreData}
 use Rattle.pc_core.specs.declared.declarations.MethodKind.TheVariants as method
-use Rattle.pc_core.specs.CoreData.{CoreData}
 use Rattle.pc_tree.specs.Kinds.{may_have_fields}
 use Rattle.pc_ann.specs.declared.annotation.Ann.{Ann}
-use Rattle.pc_semantics.specs.declared.actors.Actor.{Actor}
-use Rattle.pc_semantics.specs.declared.mailbox.Message.{Message}
-use Rattle.pc_semantics.specs.Configurations.{Configuration, own_address}
-use Rattle.pc_types.proofs.Types.{OfType, ArgumentsOk}
-use Rattle.pc_types.proofs.Frames.{FramesOk}
+use Rattle.pc_semantics.specs.{declared.actors.Actor.Actor, declared.mailbox.Message.Message, Configurations.{Configuration, own_address}}
+use Rattle.pc_types.proofs.{Types.{OfType, ArgumentsOk}, Frames.FramesOk}
 
 -- ---- objects
 

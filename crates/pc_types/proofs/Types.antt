@@ -1,19 +1,11 @@
 -- When a value is of a type: its own entity is that of the type or conforms to it, and unless the form is `tag`, all
 -- fields of its object have values. A type above another requires no more of a value than that one.
-use Rattle.std.specs.Prelude.{◌≡◌, ℕ, ◌<◌, Bool, true, false, List, [], ◌∷◌, length, Option, Some, None, slice_get}
-use Rattle.std.specs.FinMap.{get}
-use Rattle.pc_heap.specs.Objects.{ObjectMap, Object}
-use Rattle.pc_heap.specs.declared.value.Value.{Value}
-use Rattle.pc_heap.specs.declared.value.Value.TheVariants.{Prim, At}
-use Rattle.pc_caps.specs.Tables.{plain}
-use Rattle.pc_caps.specs.declared.capability.Cap.{Cap}
-use Rattle.pc_caps.specs.declared.capability.Form.{Form}
+use Rattle.std.specs.{Prelude.{◌≡◌, ℕ, ◌<◌, Bool, true, false, List, [], ◌∷◌, length, Option, Some, None, slice_get}, FinMap.get}
+use Rattle.pc_heap.specs.{Objects.{ObjectMap, Object}, declared.value.Value.Value, declared.value.Value.TheVariants.{Prim, At}}
+use Rattle.pc_caps.specs.{Tables.plain, declared.capability.Cap.Cap, declared.capability.Form.Form}
 use Rattle.pc_caps.specs.declared.capability.Form.TheVariants as form
-use Rattle.pc_core.specs.declared.declarations.EntityDef.{EntityDef}
-use Rattle.pc_core.specs.declared.declarations.ParamInfo.{ParamInfo}
-use Rattle.pc_core.specs.CoreData.{CoreData}
+use Rattle.pc_core.specs.{declared.declarations.EntityDef.EntityDef, declared.declarations.ParamInfo.ParamInfo, CoreData.CoreData, Nodes.NamesPrimitive}
 use Rattle.pc_tree.specs.Kinds.{may_have_fields}
-use Rattle.pc_core.specs.Nodes.{NamesPrimitive}
 use Rattle.pc_semantics.specs.Configurations.{value_entity}
 use Rattle.pc_valid.specs.Words.{Ty}
 use Rattle.pc_types.proofs.Under.{Under}

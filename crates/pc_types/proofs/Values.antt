@@ -1,24 +1,16 @@
 -- What a value of some types is.
 use Rattle.std.specs.Prelude.{◌≡◌, ℕ, ◌≤◌, Bool, true, false, List, [], ◌∷◌, Some, slice_get, refl}
-use Rattle.std.proofs.Common.{inl, inr, ap, sym, ◌∙◌, arith}
-use Rattle.std.proofs.lemmas.Option.{same_Some}
-use Rattle.pc_heap.specs.Objects.{ObjectMap}
-use Rattle.pc_heap.specs.declared.value.Address.{Address}
-use Rattle.pc_heap.specs.declared.value.Value.{Value}
-use Rattle.pc_heap.specs.declared.value.Value.TheVariants.{Num, Truth, Text, Prim, At}
+use Rattle.std.proofs.{Common.{inl, inr, ap, sym, ◌∙◌, arith}, lemmas.Option.same_Some}
+use Rattle.pc_heap.specs.{Objects.ObjectMap, declared.value.Address.Address, declared.value.Value.Value, declared.value.Value.TheVariants.{Num, Truth, Text, Prim, At}}
 use Rattle.pc_caps.specs.declared.capability.Form.{Form}
-use Rattle.pc_tree.specs.declared.kinds.EntityKind.{EntityKind}
+use Rattle.pc_tree.specs.{declared.kinds.EntityKind.EntityKind, Kinds.{is_abstract, may_have_fields}}
 use Rattle.pc_tree.specs.declared.kinds.EntityKind.TheVariants as entity
-use Rattle.pc_tree.specs.Kinds.{is_abstract, may_have_fields}
 use Rattle.pc_tree.proofs.KindFacts.{concrete}
-use Rattle.pc_core.specs.declared.declarations.EntityDef.{EntityDef}
-use Rattle.pc_core.specs.CoreData.{CoreData}
-use Rattle.pc_core.specs.Nodes.{NamesPrimitive}
+use Rattle.pc_core.specs.{declared.declarations.EntityDef.EntityDef, CoreData.CoreData, Nodes.NamesPrimitive}
 use Rattle.pc_ann.specs.declared.annotation.Ann.{Ann}
 use Rattle.pc_semantics.specs.Configurations.{value_entity}
-use Rattle.pc_lists.proofs.Bools.{false_true}
-use Rattle.pc_types.proofs.Types.{OfKind, OfType, Want, Answers, StackOk}
-use Rattle.pc_types.proofs.Needs.{Needs}
+use Rattle.pc_base.proofs.Bools.{false_true}
+use Rattle.pc_types.proofs.{Types.{OfKind, OfType, Want, Answers, StackOk}, Needs.Needs}
 
 -- ---- the top of a typed stack
 

@@ -3,10 +3,10 @@
 use Rattle.std.specs.Prelude.{◌≡◌, ℕ, suc, ◌+◌, ◌<◌, ◌≤◌, List, length, Some, None, slice_get}
 use Rattle.pc_sub.specs.Declarations.{DeclOk}
 use Rattle.pc_core.specs.{declared.declarations.Method.Method, declared.nodes.Slot.Slot, declared.nodes.Node.Node, CoreData.CoreData}
-use Rattle.pc_lists.specs.Lists.{Each}
+use Rattle.pc_base.specs.Lists.{Each}
 use Rattle.pc_masks.specs.{declared.mask.Mask.Mask, Masks.first}
 use Rattle.pc_ann.specs.{declared.annotation.Note.Note, declared.annotation.Ann.Ann}
-use Rattle.pc_valid.specs.{Words.Slots, Words.Masks, Words.before, Words.masks_after, Words.IsConstructor, Words.AllSet, Words.StartsSet, Valid.Means, Valid.KeepsWritten, Valid.Meets, Valid.SetsFields}
+use Rattle.pc_valid.specs.{Words.{Slots, Masks, before, masks_after, IsConstructor, AllSet, StartsSet}, Valid.{Means, KeepsWritten, Meets, SetsFields}}
 use Rattle.pc_core.specs.declared.nodes.NodeKind.TheVariants as node_kind
 
 -- This note of the node with this number satisfies its rule, by the types of the slots and by the notes of the node's

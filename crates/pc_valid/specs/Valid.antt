@@ -4,14 +4,14 @@
 -- `own` is the note of the node, and `notes` are those of its children, in order. A type is that of the node's value,
 -- or none if the value cannot be used.
 use Rattle.std.specs.Prelude.{◌≡◌, ◌⊎◌, ◌↔◌, ℕ, ◌+◌, true, false, List, [], ◌∷◌, ◌++◌, length, codes, Option, Some, None, slice_get, ◌<◌}
-use Rattle.pc_caps.specs.{Tables.view, Tables.taken, Tables.enters, Tables.plain, Tables.unalias, Tables.sendable_form, declared.capability.Cap.Cap, declared.capability.Form.Form}
-use Rattle.pc_tree.specs.{Kinds.none_entity, Kinds.u64_entity, Kinds.bool_entity, Kinds.string_entity, declared.kinds.Op.Op}
+use Rattle.pc_caps.specs.{Tables.{view, taken, enters, plain, unalias, sendable_form}, declared.capability.Cap.Cap, declared.capability.Form.Form}
+use Rattle.pc_tree.specs.{Kinds.{none_entity, u64_entity, bool_entity, string_entity}, declared.kinds.Op.Op}
 use Rattle.pc_core.specs.{declared.declarations.Method.Method, declared.nodes.Node.Node, declared.nodes.NodeKind.NodeKind, CoreData.CoreData}
 use Rattle.pc_ann.specs.{declared.annotation.Note.Note, declared.annotation.Rule.Rule, declared.annotation.Ann.Ann}
 use Rattle.pc_masks.specs.Masks.{IsInMask, with_number, without_number, first}
 use Rattle.pc_valid.specs.Words.{Ty, Masks, FormFits, IsLower, GoesTo, ReadsValue, Joined, Recovers, before, masks_after, on_both_ways, OneAfterOther, AllSet, StartsSet, Slots, SlotOf, Reachable, DefinedAs, Defines, FieldOf, place, Called, Go, Sendable, Incomplete, Place, IsConstructor}
 use Rattle.pc_sub.specs.Declarations.{DeclOk}
-use Rattle.pc_lists.specs.Lists.{Each}
+use Rattle.pc_base.specs.Lists.{Each}
 use Rattle.pc_caps.specs.declared.capability.Cap.TheVariants as cap
 use Rattle.pc_caps.specs.declared.capability.Form.TheVariants as form
 use Rattle.pc_tree.specs.declared.kinds.Op.TheVariants as op

@@ -1,11 +1,11 @@
 -- The vocabulary of the typing rules: types, places and masks, slots, fields and methods by their names, and when a
 -- value may be used for another.
 use Rattle.std.specs.Prelude.{◌≡◌, ◌⊎◌, ℕ, true, ◌+◌, ◌<◌, ◌-◌, List, [], ◌∷◌, ◌++◌, length, Option, Some, None, slice_get}
-use Rattle.pc_caps.specs.{Tables.IsBelow, Tables.unalias, Tables.stored, Tables.lift, Tables.sendable, Tables.sendable_form, declared.capability.Cap.Cap, declared.capability.Form.Form}
+use Rattle.pc_caps.specs.{Tables.{IsBelow, unalias, stored, lift, sendable, sendable_form}, declared.capability.Cap.Cap, declared.capability.Form.Form}
 use Rattle.pc_core.specs.{declared.declarations.EntityDef.EntityDef, declared.declarations.FieldInfo.FieldInfo, declared.declarations.Method.Method, declared.declarations.MethodKind.MethodKind, declared.declarations.ParamInfo.ParamInfo, declared.nodes.Slot.Slot, declared.nodes.Node.Node, CoreData.CoreData}
-use Rattle.pc_lists.specs.Lists.{Has}
+use Rattle.pc_base.specs.Lists.{Has}
 use Rattle.pc_sub.specs.Declarations.{Sub}
-use Rattle.pc_masks.specs.{declared.mask.Mask.Mask, Masks.IsInMask, Masks.empty, Masks.first, Masks.meet}
+use Rattle.pc_masks.specs.{declared.mask.Mask.Mask, Masks.{IsInMask, empty, first, meet}}
 use Rattle.pc_ann.specs.declared.annotation.Note.{Note}
 use Rattle.pc_caps.specs.declared.capability.Form.TheVariants as form
 use Rattle.pc_core.specs.declared.declarations.MethodKind.TheVariants as method

@@ -1,27 +1,16 @@
 -- A fault of a file's names or of its members never means that memory ran out.
-use Rattle.std.proofs.Common.{◌≡◌, ◌+◌, ℕ, List, [], ◌∷◌, ◌++◌, Bool, true, false, length, Option, Some, None, Ok, Err, refl, ap, ◌∙◌, subst, if◌then◌else◌}
-use Rattle.std.specs.Prelude.{Result, codes, drop, slice_get}
-use Rattle.std.specs.Str.{bytes_eq}
-use Rattle.std.proofs.lemmas.Option.{none-some, same_Some}
-use Rattle.pc_body_spec.specs.Faults.{BodyNameFault, double, long_text, unknown}
-use Rattle.pc_body_spec.specs.Methods.{MethodFault, MethodOutcome, in_body, nodes_full, slots_full}
-use Rattle.pc_body_spec.specs.Bodies.{Context}
+use Rattle.std.proofs.{Common.{◌≡◌, ◌+◌, ℕ, List, [], ◌∷◌, ◌++◌, Bool, true, false, length, Option, Some, None, Ok, Err, refl, ap, ◌∙◌, subst, if◌then◌else◌}, lemmas.Option.{none-some, same_Some}}
+use Rattle.std.specs.{Prelude.{Result, codes, drop, slice_get}, Str.bytes_eq}
+use Rattle.pc_body_spec.specs.{Faults.{BodyNameFault, double, long_text, unknown}, Methods.{MethodFault, MethodOutcome, in_body, nodes_full, slots_full}, Bodies.Context}
 use Rattle.pc_file_spec.specs.Cores.{Owned, Parts, and_member, and_members, body_fault, if_ok, name_fault, outcome, with_outcome, context_of}
-use Rattle.pc_lists.specs.Lists.{Text}
-use Rattle.pc_members.specs.Members.{built_in_names, entity_names, field_texts}
-use Rattle.pc_members.specs.MemberLists.{trait_names}
-use Rattle.pc_names.specs.Faults.{count_faults, cycle_faults, IsNotMemory, name_faults, main_faults}
-use Rattle.pc_names.specs.Parts.{method_count}
+use Rattle.pc_base.specs.Lists.{Text}
+use Rattle.pc_members.specs.{Members.{built_in_names, entity_names, field_texts}, MemberLists.trait_names}
+use Rattle.pc_names.specs.{Faults.{count_faults, cycle_faults, IsNotMemory, name_faults, main_faults}, Parts.method_count, Mains.is_main, declared.fault.NameFault.NameFault}
 use Rattle.pc_names.specs.Faults as spec
 use Rattle.pc_names.specs.Parts as parts
-use Rattle.pc_names.specs.Mains.{is_main}
-use Rattle.pc_names.specs.declared.fault.NameFault.{NameFault}
 use Rattle.pc_names.specs.declared.fault.NameFault.TheVariants as fault
-use Rattle.pc_tree.specs.Kinds.{first_own}
+use Rattle.pc_tree.specs.{Kinds.first_own, declared.file.ParamDef.ParamDef, declared.written_names.Name.Name, declared.written_names.TypeRef.TypeRef}
 use Rattle.pc_tree.specs.Tree as t
-use Rattle.pc_tree.specs.declared.file.ParamDef.{ParamDef}
-use Rattle.pc_tree.specs.declared.written_names.Name.{Name}
-use Rattle.pc_tree.specs.declared.written_names.TypeRef.{TypeRef}
 
 -- The first fault of the list, if there is one.
 abbrev pub OfFirst : List NameFault → Type 0

@@ -1,17 +1,13 @@
 -- Whether a chain leads from one number to another is decidable, if single links are and all numbers are below some
 -- number.
-use Rattle.std.proofs.Common.{◌≡◌, ◌<◌, ◌+◌, ℕ, zero, suc, List, [], ◌∷◌, length, Option, Some, None, refl, sym, ap, ◌∙◌, subst, arith}
+use Rattle.std.proofs.{Common.{◌≡◌, ◌<◌, ◌+◌, ℕ, zero, suc, List, [], ◌∷◌, length, Option, Some, None, refl, sym, ap, ◌∙◌, subst, arith}, lemmas.Option.same_Some}
 use Rattle.std.specs.Prelude.{slice_get}
-use Rattle.std.proofs.lemmas.Option.{same_Some}
-use Rattle.pc_lists.proofs.Gets.{get_below}
-use Rattle.pc_lists.specs.Lists.{Has, IsIn}
-use Rattle.pc_members.proofs.Reached.{Within, led_listed, listed_led}
-use Rattle.pc_members.proofs.Reaches.{get_in, in_get}
-use Rattle.pc_members.specs.Edges.{EdgePath, Edges, ascending, link, links, edges_from as after, reached}
-use Rattle.pc_members.specs.Parts.{or_nil}
+use Rattle.pc_base.proofs.Gets.{get_below}
+use Rattle.pc_base.specs.Lists.{Has, IsIn}
+use Rattle.pc_members.proofs.{Reached.{Within, led_listed, listed_led}, Reaches.{get_in, in_get}}
+use Rattle.pc_members.specs.{Edges.{EdgePath, Edges, ascending, link, links, edges_from as after, reached}, Parts.or_nil}
 use Rattle.pc_sends.proofs.Filtered.{Filtered}
-use Rattle.pc_verdicts.proofs.Deciding.{filtered, has_told, turned}
-use Rattle.pc_verdicts.proofs.Same.{Told}
+use Rattle.pc_verdicts.proofs.{Deciding.{filtered, has_told, turned}, Same.Told}
 
 -- One link or more lead from a number to another.
 pub data Led (R : ℕ → ℕ → Type 0) : ℕ → ℕ → Type 0 where

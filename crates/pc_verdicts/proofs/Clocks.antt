@@ -1,22 +1,14 @@
 -- The events of a run, their order and their clocks exist.
-use Rattle.std.proofs.Common.{◌≡◌, ◌⊎◌, ◌<◌, ◌+◌, ℕ, zero, suc, List, [], ◌∷◌, ◌++◌, length, Some, inl, inr, refl, sym, ◌∙◌, subst, arith, length-append}
+use Rattle.std.proofs.{Common.{◌≡◌, ◌⊎◌, ◌<◌, ◌+◌, ℕ, zero, suc, List, [], ◌∷◌, ◌++◌, length, Some, inl, inr, refl, sym, ◌∙◌, subst, arith, length-append}, lemmas.Bool.cases_eq, lemmas.Option.none-some}
 use Rattle.std.specs.Prelude.{slice_get}
-use Rattle.std.proofs.lemmas.Bool.{cases_eq}
-use Rattle.std.proofs.lemmas.Option.{none-some}
 use Rattle.pc_core.specs.CoreData.{CoreData}
 use Rattle.pc_events.proofs.Events.{event_is, is_event_so}
-use Rattle.pc_events.specs.Before.{Before, Carries, Event, at_place, receiver_of, taken_before, waiting_for}
-use Rattle.pc_events.specs.Before.Before.{carried, chain, own}
-use Rattle.pc_events.specs.Clock.{Clock, Clocks, UpTo}
-use Rattle.pc_events.specs.Counting.{is_event}
-use Rattle.pc_lists.proofs.Gets.{get_below, get_push}
-use Rattle.pc_lists.specs.Lists.{Each}
-use Rattle.pc_semantics.specs.Ahead.{ahead_of}
-use Rattle.pc_semantics.specs.declared.ahead.Ahead.{Ahead}
+use Rattle.pc_events.specs.{Before.{Before, Carries, Event, at_place, receiver_of, taken_before, waiting_for}, Before.Before.{carried, chain, own}, Clock.{Clock, Clocks, UpTo}, Counting.is_event}
+use Rattle.pc_base.proofs.Gets.{get_below, get_push}
+use Rattle.pc_base.specs.Lists.{Each}
+use Rattle.pc_semantics.specs.{Ahead.ahead_of, declared.ahead.Ahead.Ahead}
 use Rattle.pc_semantics.specs.declared.ahead.Ahead.TheVariants as ahead
-use Rattle.pc_verdicts.proofs.Chains.{Led, led_on, led_told, more, one}
-use Rattle.pc_verdicts.proofs.Deciding.{at_told, both_told, either_told, filtered, is_told, less_told, true_told, turned}
-use Rattle.pc_verdicts.proofs.Same.{Told}
+use Rattle.pc_verdicts.proofs.{Chains.{Led, led_on, led_told, more, one}, Deciding.{at_told, both_told, either_told, filtered, is_told, less_told, true_told, turned}, Same.Told}
 
 take_told : (x : Ahead) → Told (x ≡ ahead.Take)
 take_told ahead.Take = inl refl

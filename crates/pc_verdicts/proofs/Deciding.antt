@@ -1,10 +1,8 @@
 -- What is decidable of parts is decidable of the whole.
-use Rattle.std.proofs.Common.{◌≡◌, ◌⊎◌, ◌<◌, ◌≤◌, ◌+◌, ℕ, zero, suc, Bool, true, false, List, [], ◌∷◌, ◌++◌, Option, Some, None, inl, inr, refl, sym, ap, ◌∙◌, subst, arith}
+use Rattle.std.proofs.{Common.{◌≡◌, ◌⊎◌, ◌<◌, ◌≤◌, ◌+◌, ℕ, zero, suc, Bool, true, false, List, [], ◌∷◌, ◌++◌, Option, Some, None, inl, inr, refl, sym, ap, ◌∙◌, subst, arith}, lemmas.Bool.{cases_eq, cases_lt, false≢true, true≢false}, lemmas.Option.{none-some, same_Some}}
 use Rattle.std.specs.Prelude.{slice_get}
-use Rattle.std.proofs.lemmas.Bool.{cases_eq, cases_lt, false≢true, true≢false}
-use Rattle.std.proofs.lemmas.Option.{none-some, same_Some}
-use Rattle.pc_lists.proofs.Elements.{has_on}
-use Rattle.pc_lists.specs.Lists.{Has}
+use Rattle.pc_base.proofs.Elements.{has_on}
+use Rattle.pc_base.specs.Lists.{Has}
 use Rattle.pc_sends.proofs.Filtered.{Filtered, filtered_none, filtered_push, filtered_skip}
 use Rattle.pc_verdicts.proofs.Same.{Told, same_option}
 

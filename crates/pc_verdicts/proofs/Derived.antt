@@ -3,23 +3,16 @@ use Rattle.std.proofs.Common.{Ok, refl, subst}
 use Rattle.std.specs.Prelude.{IsSome}
 use Rattle.pc_ann.specs.declared.annotation.Ann.{Ann}
 use Rattle.pc_check.proofs.Agreement.{none_with_fault, none_with_unset, none_without_rule}
-use Rattle.pc_core.specs.CoreData.{CoreData}
-use Rattle.pc_core.specs.Formed.{Formed}
+use Rattle.pc_core.specs.{CoreData.CoreData, Formed.Formed}
 use Rattle.pc_deriv.specs.Text.{deriv_text}
 use Rattle.pc_deriv.specs.declared.version.Version.TheVariants as version
-use Rattle.pc_lists.specs.Lists.{Text}
+use Rattle.pc_base.specs.Lists.{Text}
 use Rattle.pc_rules.proofs.Unique.{one_valid}
 use Rattle.pc_valid.specs.Valid.{Valid}
-use Rattle.pc_refusals.specs.Source.{AcceptedStage, source_limit}
-use Rattle.pc_refusals.specs.Verdict.{Named, Reading, done}
-use Rattle.pc_refusals.specs.declared.typing.Accepted.{Accepted}
-use Rattle.pc_top.specs.Commands.Check.{Derived, IsCheck}
-use Rattle.pc_top.specs.CoresFormed.{CoresAreFormed}
+use Rattle.pc_refusals.specs.{Source.{AcceptedStage, source_limit}, Verdict.{Named, Reading, done}, declared.typing.Accepted.Accepted}
+use Rattle.pc_top.specs.{Commands.Check.{Derived, IsCheck}, CoresFormed.CoresAreFormed}
 use Rattle.pc_top.proofs.Deriving.{accepted_source, small_notes, source_formed}
-use Rattle.pc_verdicts.proofs.Fitting.{NotesFit, SlotsAreSmall}
-use Rattle.pc_verdicts.proofs.Shapes.{accepted_answers}
-use Rattle.pc_verdicts.proofs.Stages.{Answers, ReadOn}
-use Rattle.pc_verdicts.proofs.Typed.{Checked, checked, fails, is_valid, left, stopped}
+use Rattle.pc_verdicts.proofs.{Fitting.{NotesFit, SlotsAreSmall}, Shapes.accepted_answers, Stages.{Answers, ReadOn}, Typed.{Checked, checked, fails, is_valid, left, stopped}}
 
 -- The valid annotation is the one that the walk makes, and its numbers are small.
 valid_fits : (core : CoreData) (ann : Ann) → Formed core → Valid core ann → Checked core → SlotsAreSmall ann.slots × NotesFit ann.notes

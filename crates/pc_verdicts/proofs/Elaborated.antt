@@ -1,37 +1,25 @@
 -- The stages of a source have an end.
 use Rattle.std.proofs.Common.{◌≡◌, ◌<◌, ◌≤◌, ◌+◌, ◌^◌, List, [], ◌∷◌, length, Some, Ok, Err, inl, inr, refl, ap, subst, arith}
 use Rattle.std.specs.Prelude.{Result, codes, slice_get}
-use Rattle.pc_core_relation.proofs.Files.{made_cores_stand}
-use Rattle.pc_core_relation.proofs.MemberFaults.{is_first}
+use Rattle.pc_core_relation.proofs.{Files.made_cores_stand, MemberFaults.is_first}
 use Rattle.pc_file_spec.specs.Cores.{core_with, texts_of_file, members_from, Parts, built_in_parts, if_ok, parts_of}
-use Rattle.pc_grammar.specs.FileAnswers.{FileAnswer, IsFileAnswer, spelled, too_deep, unexpected}
-use Rattle.pc_grammar.specs.Spells.{SpellsFile}
+use Rattle.pc_grammar.specs.{FileAnswers.{FileAnswer, IsFileAnswer, spelled, too_deep, unexpected}, Spells.SpellsFile}
 use Rattle.pc_grammar_total.proofs.Answered.{file_has_one}
 use Rattle.pc_lex.proofs.Together.{told}
 use Rattle.pc_lex.specs.Pieces.{token_limit}
-use Rattle.pc_lists.proofs.Elements.{differ_none}
-use Rattle.pc_lists.specs.Lists.{Text}
+use Rattle.pc_base.proofs.Elements.{differ_none}
+use Rattle.pc_base.specs.Lists.{Text}
 use Rattle.pc_members.proofs.Closings.{closes}
-use Rattle.pc_members.specs.Edges.{edges_of, above_all}
-use Rattle.pc_members.specs.Members.{entity_names}
-use Rattle.pc_names.specs.Faults.{IsFirstNameFault, Collected, NamesData, name_faults}
-use Rattle.pc_names.specs.declared.fault.NameFault.{NameFault}
+use Rattle.pc_members.specs.{Edges.{edges_of, above_all}, Members.entity_names}
+use Rattle.pc_names.specs.{Faults.{IsFirstNameFault, Collected, NamesData, name_faults}, declared.fault.NameFault.NameFault}
 use Rattle.pc_names.specs.declared.fault.NameFault.TheVariants as fault
 use Rattle.pc_text_order.proofs.Tokens.{tokens_end}
 use Rattle.pc_token.specs.declared.kinds.Token.{Token}
 use Rattle.pc_tree.specs.Kinds.{first_own}
 use Rattle.pc_tree.specs.Tree as t
-use Rattle.pc_refusals.specs.FaultLines.{fault_line, fault_status, name_line, name_status}
-use Rattle.pc_refusals.specs.Verdict.{Reading, refused}
+use Rattle.pc_refusals.specs.{FaultLines.{fault_line, fault_status, name_line, name_status}, Verdict.{Reading, refused}, Source.{CoreStage, Elaborating, FileStage, Length, Lexing, Parsing, SourceStage, SyntaxStage, TextStage, TreeStage, source_limit}, Source.Elaborating.{elaborated, misnamed, misused}, Source.Lexing.{faulty, lexed}, Source.Parsing.{astray, nested, parsed}, Source.TextStage.{has_core, has_none}}
 use Rattle.pc_refusal_lines.specs.Lines.{offset_line}
-use Rattle.pc_refusals.specs.Source.{CoreStage, Elaborating, FileStage, Length, Lexing, Parsing, SourceStage, SyntaxStage, TextStage, TreeStage, source_limit}
-use Rattle.pc_refusals.specs.Source.Elaborating.{elaborated, misnamed, misused}
-use Rattle.pc_refusals.specs.Source.Lexing.{faulty, lexed}
-use Rattle.pc_refusals.specs.Source.Parsing.{astray, nested, parsed}
-use Rattle.pc_refusals.specs.Source.TextStage.{has_core, has_none}
-use Rattle.pc_verdicts.proofs.Causes.{failed, of_file, of_members}
-use Rattle.pc_verdicts.proofs.Fewness.{texts_few}
-use Rattle.pc_verdicts.proofs.Stages.{HasEnd, after_ends}
+use Rattle.pc_verdicts.proofs.{Causes.{failed, of_file, of_members}, Fewness.texts_few, Stages.{HasEnd, after_ends}}
 
 -- ---- tokens and trees
 

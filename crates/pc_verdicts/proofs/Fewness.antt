@@ -1,19 +1,14 @@
 -- A file has no more names of fields and methods, and no more names after a `.`, than there are tokens that spell it.
 use Rattle.std.proofs.Common.{◌≡◌, ◌≤◌, ◌+◌, ◌*◌, Bool, true, false, codes, List, [], ◌∷◌, ◌++◌, Option, Some, None, length, refl, sym, subst, arith, length-append, if◌then◌else◌}
-use Rattle.pc_lists.specs.Lists.{Text}
+use Rattle.pc_base.specs.Lists.{Text}
 use Rattle.pc_tree.specs.Tree as t
-use Rattle.pc_tree.specs.declared.kinds.Op.{Op}
-use Rattle.pc_tree.specs.declared.kinds.EntityKind.{EntityKind}
-use Rattle.pc_token.specs.declared.kinds.Token.{Token}
-use Rattle.pc_token.specs.declared.words.Word.{Word}
+use Rattle.pc_tree.specs.{declared.kinds.Op.Op, declared.kinds.EntityKind.EntityKind}
+use Rattle.pc_token.specs.{declared.kinds.Token.Token, declared.words.Word.Word}
 use Rattle.pc_token.specs.declared.words.Word.TheVariants as w
-use Rattle.pc_grammar.specs.Spells.{Spells, SpellsTerms, SpellsMoreTerms, SpellsSuffixes, SpellsArgs, SpellsMoreArgs, SpellsArm, SpellsArms, SpellsMoreArms, SpellsOther, SpellsSeq, SpellsItems, SpellsMoreItems, SpellsItem, SpellsValue, SpellsBody, SpellsMethod, SpellsEntity, SpellsEntities, SpellsFile}
-use Rattle.pc_grammar.specs.Parts.{SpellsFields, SpellsMethods, SpellsMoreEntities}
-use Rattle.pc_members.specs.Members.{field_texts, method_texts}
-use Rattle.pc_members.specs.MemberLists.{is_among, with_name, with_names}
+use Rattle.pc_grammar.specs.{Spells.{Spells, SpellsTerms, SpellsMoreTerms, SpellsSuffixes, SpellsArgs, SpellsMoreArgs, SpellsArm, SpellsArms, SpellsMoreArms, SpellsOther, SpellsSeq, SpellsItems, SpellsMoreItems, SpellsItem, SpellsValue, SpellsBody, SpellsMethod, SpellsEntity, SpellsEntities, SpellsFile}, Parts.{SpellsFields, SpellsMethods, SpellsMoreEntities}}
+use Rattle.pc_members.specs.{Members.{field_texts, method_texts}, MemberLists.{is_among, with_name, with_names}}
 use Rattle.pc_names.specs.Faults.{built_in_texts, with_members}
-use Rattle.pc_body_spec.specs.Slots.{expr_texts, exprs_texts, suffixes_texts, arm_texts, arms_texts, other_texts, seq_texts, items_texts, item_texts, entities_texts}
-use Rattle.pc_body_spec.specs.Parts.{value_texts, body_texts, values_texts, bodies_texts}
+use Rattle.pc_body_spec.specs.{Slots.{expr_texts, exprs_texts, suffixes_texts, arm_texts, arms_texts, other_texts, seq_texts, items_texts, item_texts, entities_texts}, Parts.{value_texts, body_texts, values_texts, bodies_texts}}
 use Rattle.pc_file_spec.specs.Cores.{texts_of_file}
 
 -- There are no more texts than tokens.

@@ -1,49 +1,24 @@
 -- What rules state is small enough for a derivation's text: entities are below 2^32, and masks below 2^64.
-use Rattle.std.proofs.Common.{◌≡◌, ◌<◌, ◌≤◌, ◌+◌, ◌-◌, ◌^◌, ℕ, zero, suc, min, Bool, true, false, ◌&&◌, List, [], ◌∷◌, ◌++◌, map, length, Option, Some, None, inl, inr, refl, sym, ap, ◌∙◌, subst, arith, if◌then◌else◌}
-use Rattle.std.specs.Prelude.{bit_or, nat_lt, slice_get, slice_set}
-use Rattle.std.specs.List.{AllByRecursion}
-use Rattle.std.proofs.lemmas.Bool.{cases_lt, ltb-true}
-use Rattle.std.proofs.lemmas.Nat.{and_le_l, or_lt, pow_below}
-use Rattle.std.proofs.lemmas.Option.{none-some, same_Some}
-use Rattle.pc_ann.specs.declared.annotation.Ann.{Ann}
-use Rattle.pc_ann.specs.declared.annotation.Note.{Note}
-use Rattle.pc_ann.specs.declared.annotation.Rule.{Rule}
+use Rattle.std.proofs.{Common.{◌≡◌, ◌<◌, ◌≤◌, ◌+◌, ◌-◌, ◌^◌, ℕ, zero, suc, min, Bool, true, false, ◌&&◌, List, [], ◌∷◌, ◌++◌, map, length, Option, Some, None, inl, inr, refl, sym, ap, ◌∙◌, subst, arith, if◌then◌else◌}, lemmas.Bool.{cases_lt, ltb-true}, lemmas.Nat.{and_le_l, or_lt, pow_below}, lemmas.Option.{none-some, same_Some}}
+use Rattle.std.specs.{Prelude.{bit_or, nat_lt, slice_get, slice_set}, List.AllByRecursion}
+use Rattle.pc_ann.specs.{declared.annotation.Ann.Ann, declared.annotation.Note.Note, declared.annotation.Rule.Rule}
 use Rattle.pc_ann.specs.declared.annotation.Rule.TheVariants as rule
-use Rattle.pc_caps.specs.Tables.{plain, stored, taken, unalias, view}
-use Rattle.pc_caps.specs.declared.capability.Cap.{Cap}
-use Rattle.pc_caps.specs.declared.capability.Form.{Form}
+use Rattle.pc_caps.specs.{Tables.{plain, stored, taken, unalias, view}, declared.capability.Cap.Cap, declared.capability.Form.Form}
 use Rattle.pc_caps.specs.declared.capability.Form.TheVariants as form
 use Rattle.pc_check.specs.Inference.{first_note, first_types, inferred_slot, note_of, note_or_else, inferred_slot_type, unwritten, with_inferred, with_inferred_slot, written_type}
-use Rattle.pc_core.specs.CoreData.{CoreData, field_named}
-use Rattle.pc_core.specs.Formed.{Formed}
-use Rattle.pc_core.specs.Methods.{SlotsFit}
-use Rattle.pc_core.specs.Entities.{param_slot, this_slot}
-use Rattle.pc_core.specs.Nodes.{NamesFit}
-use Rattle.pc_core.specs.declared.declarations.EntityDef.{EntityDef}
-use Rattle.pc_core.specs.declared.declarations.FieldInfo.{FieldInfo}
-use Rattle.pc_core.specs.declared.declarations.Method.{Method}
-use Rattle.pc_core.specs.declared.nodes.Node.{Node}
-use Rattle.pc_core.specs.declared.nodes.NodeKind.{NodeKind}
+use Rattle.pc_core.specs.{CoreData.{CoreData, field_named}, Formed.Formed, Methods.SlotsFit, Entities.{param_slot, this_slot}, Nodes.NamesFit, declared.declarations.EntityDef.EntityDef, declared.declarations.FieldInfo.FieldInfo, declared.declarations.Method.Method, declared.nodes.Node.Node, declared.nodes.NodeKind.NodeKind, declared.nodes.Slot.Slot}
 use Rattle.pc_core.specs.declared.nodes.NodeKind.TheVariants as node
-use Rattle.pc_core.specs.declared.nodes.Slot.{Slot}
 use Rattle.pc_deriv.specs.Text.{MaskFits, NoteFits, SlotFits, TypeFits}
-use Rattle.pc_lists.proofs.Gets.{append_get, get_below, map_get, range_get}
-use Rattle.pc_lists.proofs.Options.{bind_some, kept, kept_otherwise}
-use Rattle.pc_lists.proofs.Ranges.{run_around}
-use Rattle.pc_lists.specs.Lists.{◌>>=◌}
-use Rattle.pc_masks.specs.Masks.{empty, first, has, meet, with_number, without_number}
-use Rattle.pc_masks.specs.declared.mask.Mask.{Mask}
+use Rattle.pc_base.proofs.{Gets.{append_get, get_below, map_get, range_get}, Options.{bind_some, kept, kept_otherwise}, Ranges.run_around}
+use Rattle.pc_base.specs.Lists.{◌>>=◌}
+use Rattle.pc_masks.specs.{Masks.{empty, first, has, meet, with_number, without_number}, declared.mask.Mask.Mask}
 use Rattle.pc_rules.specs.Calls as call
 use Rattle.pc_rules.specs.Control as control
 use Rattle.pc_rules.specs.Fields as field
 use Rattle.pc_rules.specs.Operators as operator
-use Rattle.pc_rules.specs.Parts.{all_fields, constructs, field_count, last_note, notes_of, one_child, one_note, one_type, says_of, slot_of, starts, three_notes, through_notes, two_notes, two_types}
+use Rattle.pc_rules.specs.{Parts.{all_fields, constructs, field_count, last_note, notes_of, one_child, one_note, one_type, says_of, slot_of, starts, three_notes, through_notes, two_notes, two_types}, Rules.{rule_says, says}, Checks.StartsFrom, Checks.StartsFrom.{body as starts_body, else_branch, first_child, next_child}, declared.said.Said.Said}
 use Rattle.pc_valid.specs.Words.{Masks, Slots, Ty, masks_after}
-use Rattle.pc_rules.specs.Rules.{rule_says, says}
-use Rattle.pc_rules.specs.Checks.{StartsFrom}
-use Rattle.pc_rules.specs.Checks.StartsFrom.{body as starts_body, else_branch, first_child, next_child}
 use Rattle.pc_rules.specs.Values as value
-use Rattle.pc_rules.specs.declared.said.Said.{Said}
 
 -- ---- masks
 

@@ -1,39 +1,22 @@
 -- An annotation is valid or has a first fault.
-use Rattle.std.proofs.Common.{◌≡◌, ◌⊎◌, ◌<◌, ◌+◌, ℕ, zero, suc, Bool, true, false, length, Option, Some, None, Ok, Err, inl, inr, refl, sym, ap, ◌∙◌, subst, arith}
+use Rattle.std.proofs.{Common.{◌≡◌, ◌⊎◌, ◌<◌, ◌+◌, ℕ, zero, suc, Bool, true, false, length, Option, Some, None, Ok, Err, inl, inr, refl, sym, ap, ◌∙◌, subst, arith}, lemmas.Bool.cases_eq, lemmas.Option.{get_or_from_slice_get, none-some, same_Some}}
 use Rattle.std.specs.Prelude.{slice_get}
-use Rattle.std.proofs.lemmas.Bool.{cases_eq}
-use Rattle.std.proofs.lemmas.Option.{get_or_from_slice_get, none-some, same_Some}
-use Rattle.pc_ann.specs.declared.annotation.Ann.{Ann}
-use Rattle.pc_ann.specs.declared.annotation.Note.{Note}
+use Rattle.pc_ann.specs.{declared.annotation.Ann.Ann, declared.annotation.Note.Note}
 use Rattle.pc_caps.specs.declared.capability.Cap.{Cap}
-use Rattle.pc_core.specs.CoreData.{CoreData}
-use Rattle.pc_core.specs.Formed.{Formed}
-use Rattle.pc_core.specs.declared.nodes.Node.{Node}
-use Rattle.pc_core.specs.declared.nodes.Slot.{Slot}
-use Rattle.pc_judge.proofs.AtNode.{fails_set, passes}
-use Rattle.pc_judge.proofs.Exact.{before_all, before_next}
-use Rattle.pc_judge.proofs.Kept.{KeptBefore, kept_all, kept_next}
-use Rattle.pc_judge.specs.Computed.{leaves_unset}
+use Rattle.pc_core.specs.{CoreData.CoreData, Formed.Formed, declared.nodes.Node.Node, declared.nodes.Slot.Slot}
+use Rattle.pc_judge.proofs.{AtNode.{fails_set, passes}, Exact.{before_all, before_next}, Kept.{KeptBefore, kept_all, kept_next}}
+use Rattle.pc_judge.specs.{Computed.leaves_unset, declared.faults.JudgeFault.JudgeFault}
 use Rattle.pc_judge.specs.Faults as spec
-use Rattle.pc_judge.specs.declared.faults.JudgeFault.{JudgeFault}
 use Rattle.pc_judge.specs.declared.faults.JudgeFault.TheVariants as fault
-use Rattle.pc_lists.proofs.Gets.{get_below, get_within}
-use Rattle.pc_lists.specs.Lists.{Text}
-use Rattle.pc_valid.specs.Words.{before}
-use Rattle.pc_valid.specs.Valid.{KeepsWritten, MeetsRule, Valid}
+use Rattle.pc_base.proofs.Gets.{get_below, get_within}
+use Rattle.pc_base.specs.Lists.{Text}
+use Rattle.pc_valid.specs.{Words.before, Valid.{KeepsWritten, MeetsRule, Valid}}
 use Rattle.pc_rules.specs.Rules.{IsSaid, said_by, says}
 use Rattle.pc_rules.proofs.Derivations.{rule_to, to_rule}
-use Rattle.pc_sub.specs.Declarations.{DeclOk}
-use Rattle.pc_sub.specs.DeclarationFaults.{first_fault}
-use Rattle.pc_sub.specs.Faults.{none_iff_fits}
+use Rattle.pc_sub.specs.{Declarations.DeclOk, DeclarationFaults.first_fault, Faults.none_iff_fits, declared.faults.DeclFault.DeclFault}
 use Rattle.pc_sub.proofs.FirstFaults.{first_is}
-use Rattle.pc_sub.specs.declared.faults.DeclFault.{DeclFault}
-use Rattle.pc_refusals.specs.Derivation.{Judging, judge_line}
-use Rattle.pc_refusals.specs.Derivation.Judging.{fails, holds}
-use Rattle.pc_refusals.specs.Verdict.{refused}
-use Rattle.pc_refusals.specs.declared.source.Source.{Source}
-use Rattle.pc_verdicts.proofs.Same.{Told, same_option, same_said, same_type}
-use Rattle.pc_verdicts.proofs.Stages.{HasEnd}
+use Rattle.pc_refusals.specs.{Derivation.{Judging, judge_line}, Derivation.Judging.{fails, holds}, Verdict.refused, declared.source.Source.Source}
+use Rattle.pc_verdicts.proofs.{Same.{Told, same_option, same_said, same_type}, Stages.HasEnd}
 
 module _ (core : CoreData) (ann : Ann) (formed : Formed core) where
   abbrev Judged : Type 0

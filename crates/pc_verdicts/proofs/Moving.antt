@@ -1,30 +1,15 @@
 -- A verdict on files that were read without a failure is that on files that are read through.
 use Rattle.std.proofs.Common.{◌≡◌, ◌<◌, ◌+◌, ℕ, List, [], ◌∷◌, Option, Some, None, inl, inr, refl, subst, arith}
 use Rattle.std.specs.Prelude.{Result}
-use Rattle.pc_args.specs.Asked.{Asked, check, events, explain, judge, make, outcomes, places, play, run, schedule_of, sends, show, swap, trace, upgrade, command_of}
-use Rattle.pc_args.specs.Line.{IsSeed}
+use Rattle.pc_args.specs.{Asked.{Asked, check, events, explain, judge, make, outcomes, places, play, run, schedule_of, sends, show, swap, trace, upgrade, command_of}, Line.IsSeed}
 use Rattle.pc_deriv.specs.Text.{derivation_limit}
-use Rattle.pc_lists.specs.Lists.{Text}
-use Rattle.pc_refusals.specs.Source.{AcceptedStage, FromFile, SourceStage, source_limit}
-use Rattle.pc_refusals.specs.Derivation.{in_parts}
-use Rattle.pc_refusals.specs.Source.FromFile.{goes_on, refuses}
-use Rattle.pc_refusals.specs.Verdict.{FailedAt, Files, Named, Reading, IsReading, longer, named, whole, EndsWith, Verdict}
-use Rattle.pc_refusals.specs.Knowing.{NoneFailed}
+use Rattle.pc_base.specs.Lists.{Text}
+use Rattle.pc_refusals.specs.{Source.{AcceptedStage, FromFile, SourceStage, source_limit}, Derivation.in_parts, Source.FromFile.{goes_on, refuses}, Verdict.{FailedAt, Files, Named, Reading, IsReading, longer, named, whole, EndsWith, Verdict}, Knowing.NoneFailed}
 use Rattle.pc_ann.specs.declared.annotation.Ann.{Ann}
 use Rattle.pc_sched.specs.Schedules.{schedule_limit}
-use Rattle.pc_top.specs.Commands.{FailedOf, IsVerdictOf}
-use Rattle.pc_top.specs.Words.{files_of}
-use Rattle.pc_core_commands.specs.Events.{EventsTelling}
-use Rattle.pc_core_commands.specs.Outcomes.{IsCount}
-use Rattle.pc_core_commands.specs.Run.{Ran}
-use Rattle.pc_core_commands.specs.Swap.{Swapping}
-use Rattle.pc_top.specs.Commands.Swap.IsSwap.{no_number as no_place, placed}
-use Rattle.pc_core_commands.specs.Trace.{Tracing}
-use Rattle.pc_top.specs.One.{TellsOf, UnfailedOf, VerdictIsOne}
-use Rattle.pc_top.specs.Shapes.{ByNumber, LastOfTurns, OfDerivation, OfScheduled}
-use Rattle.pc_top.specs.Shapes.ByNumber.{no_number, spelled}
-use Rattle.pc_verdicts.specs.Free.{ElevenIsFree, IsAnswerOf}
-use Rattle.pc_verdicts.specs.There.{read_through}
+use Rattle.pc_top.specs.{Commands.{FailedOf, IsVerdictOf}, Words.files_of, Commands.Swap.IsSwap.{no_number as no_place, placed}, One.{TellsOf, UnfailedOf, VerdictIsOne}, Shapes.{ByNumber, LastOfTurns, OfDerivation, OfScheduled}, Shapes.ByNumber.{no_number, spelled}}
+use Rattle.pc_commands.specs.{Events.EventsTelling, Outcomes.IsCount, Run.Ran, Swap.Swapping, Trace.Tracing}
+use Rattle.pc_verdicts.specs.{Free.{ElevenIsFree, IsAnswerOf}, There.read_through}
 
 reading_moves : (limit : ℕ) (known : Option Text) (before now taken many : ℕ) → limit < many → now ≡ before → (r : Reading) → IsReading limit known before now taken r → IsReading limit known 0 0 many r
 reading_moves limit known before now taken many far same (whole bytes) h = h

@@ -1,18 +1,13 @@
 -- A word denotes a number or denotes none.
-use Rattle.std.proofs.Common.{◌⊎◌, ◌≤◌, ◌^◌, ℕ, List, [], ◌∷◌, length, inl, inr, refl, subst, arith}
-use Rattle.std.specs.Char.{digit_value}
-use Rattle.std.specs.Str.Parse.{AllDigits, digits_value}
-use Rattle.std.proofs.lemmas.Bool.{cases_lt}
+use Rattle.std.proofs.{Common.{◌⊎◌, ◌≤◌, ◌^◌, ℕ, List, [], ◌∷◌, length, inl, inr, refl, subst, arith}, lemmas.Bool.cases_lt}
+use Rattle.std.specs.{Char.digit_value, Str.Parse.{AllDigits, digits_value}}
 use Rattle.pc_args.specs.Line.{IsNumber, IsSeed, IsSize}
-use Rattle.pc_lists.specs.Lists.{Text}
+use Rattle.pc_base.specs.Lists.{Text}
 use Rattle.pc_refusal_lines.specs.Lines.{usage_line}
 use Rattle.pc_refusals.specs.Verdict.{Verdict, refused}
-use Rattle.pc_core_commands.specs.Outcomes.{IsCount, seeds_limit}
-use Rattle.pc_core_commands.specs.Swap.{IsPlace}
-use Rattle.pc_top.specs.Shapes.{ByNumber}
-use Rattle.pc_top.specs.Shapes.ByNumber.{no_number, spelled}
-use Rattle.pc_verdicts.proofs.Same.{Told}
-use Rattle.pc_verdicts.proofs.Stages.{Answers}
+use Rattle.pc_commands.specs.{Outcomes.{IsCount, seeds_limit}, Swap.IsPlace}
+use Rattle.pc_top.specs.{Shapes.ByNumber, Shapes.ByNumber.{no_number, spelled}}
+use Rattle.pc_verdicts.proofs.{Same.Told, Stages.Answers}
 
 -- A number of which this holds, or that there is none.
 abbrev pub Read : (ℕ → Type 0) → Type 0

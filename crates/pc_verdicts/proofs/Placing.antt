@@ -1,9 +1,7 @@
 -- What is at the places of a run, listed place by place.
-use Rattle.std.proofs.Common.{◌≡◌, ◌⊎◌, ◌<◌, ℕ, suc, List, [], ◌∷◌, ◌++◌, length, Some, inl, inr, sym, ap, ◌∙◌, subst, arith}
+use Rattle.std.proofs.{Common.{◌≡◌, ◌⊎◌, ◌<◌, ℕ, suc, List, [], ◌∷◌, ◌++◌, length, Some, inl, inr, sym, ap, ◌∙◌, subst, arith}, lemmas.Bool.cases_lt, lemmas.Option.none-some}
 use Rattle.std.specs.Prelude.{slice_get}
-use Rattle.std.proofs.lemmas.Bool.{cases_lt}
-use Rattle.std.proofs.lemmas.Option.{none-some}
-use Rattle.pc_lists.proofs.Gets.{get_behind, get_below, get_front, get_push}
+use Rattle.pc_base.proofs.Gets.{get_behind, get_below, get_front, get_push}
 
 -- Each thing has a number, which is its place counted from 1, and is as required at that place. Some places are wanted.
 module _ {T : Type 0} (number : T → ℕ) (At : ℕ → T → Type 0) (Wanted : ℕ → Type 0) where

@@ -1,48 +1,25 @@
 -- `events` has a verdict.
-use Rattle.std.proofs.Common.{◌≡◌, ◌⊎◌, ℕ, zero, suc, List, [], ◌∷◌, ◌++◌, length, Option, Some, None, Ok, Err, inl, inr, refl, sym, ap, ◌∙◌, subst, arith, append-nil}
+use Rattle.std.proofs.{Common.{◌≡◌, ◌⊎◌, ℕ, zero, suc, List, [], ◌∷◌, ◌++◌, length, Option, Some, None, Ok, Err, inl, inr, refl, sym, ap, ◌∙◌, subst, arith, append-nil}, lemmas.Option.none-some}
 use Rattle.std.specs.Prelude.{IsSome}
-use Rattle.std.proofs.lemmas.Option.{none-some}
-use Rattle.pc_core.specs.CoreData.{CoreData}
-use Rattle.pc_core.specs.Formed.{Formed}
-use Rattle.pc_events.proofs.Boxes.{Boxes}
-use Rattle.pc_events.proofs.Events.{one_actor}
-use Rattle.pc_events.proofs.Order.{earlier_comes_before}
-use Rattle.pc_events.proofs.Totals.{moving}
-use Rattle.pc_events.specs.Before.{Carries, Event, at_place, waiting_for}
-use Rattle.pc_events.specs.Clock.{Clocks}
-use Rattle.pc_lists.specs.Lists.{Text}
+use Rattle.pc_core.specs.{CoreData.CoreData, Formed.Formed}
+use Rattle.pc_events.proofs.{Boxes.Boxes, Events.one_actor, Order.earlier_comes_before, Totals.moving}
+use Rattle.pc_events.specs.{Before.{Carries, Event, at_place, waiting_for}, Clock.Clocks}
+use Rattle.pc_base.specs.Lists.{Text}
 use Rattle.pc_regions.specs.Laws.{ValidIsSafe}
 use Rattle.pc_run.specs.Spreading.{spread}
-use Rattle.pc_run_events.proofs.Access.{IsTask}
-use Rattle.pc_run_events.proofs.Effects.{Effects, NoneMade, OneMade, effects_at}
-use Rattle.pc_run_events.proofs.Naming.{all_named}
-use Rattle.pc_run_events.proofs.Recording.{first_waits, none_of, nothing_done, touches_push}
-use Rattle.pc_run_events.specs.Events.{AllEvents, Does, EventAt, SentAt, touches_in, touches_with}
-use Rattle.pc_run_events.specs.Lines.{events_text_of_run}
-use Rattle.pc_run_events.specs.declared.events.Deed.{Deed}
+use Rattle.pc_run_events.proofs.{Access.IsTask, Effects.{Effects, NoneMade, OneMade, effects_at}, Naming.all_named, Recording.{first_waits, none_of, nothing_done, touches_push}}
+use Rattle.pc_run_events.specs.{Events.{AllEvents, Does, EventAt, SentAt, touches_in, touches_with}, Lines.events_text_of_run, declared.events.Deed.Deed, declared.events.RunEvent.RunEvent}
 use Rattle.pc_run_events.specs.declared.events.Deed.TheVariants as deed
-use Rattle.pc_run_events.specs.declared.events.RunEvent.{RunEvent}
 use Rattle.pc_sched.specs.Schedules.{schedule_limit}
-use Rattle.pc_semantics.specs.Ahead.{ahead_of}
-use Rattle.pc_semantics.specs.Safety.{Safe, access}
-use Rattle.pc_semantics.specs.declared.access.Access.{Access}
-use Rattle.pc_semantics.specs.declared.ahead.Ahead.{Ahead}
+use Rattle.pc_semantics.specs.{Ahead.ahead_of, Safety.{Safe, access}, declared.access.Access.Access, declared.ahead.Ahead.Ahead}
 use Rattle.pc_semantics.specs.declared.ahead.Ahead.TheVariants as ahead
 use Rattle.pc_trace.specs.declared.touch.Touch.{Touch}
 use Rattle.pc_refusal_lines.specs.Lines.{many_actors_line, too_long_line}
-use Rattle.pc_refusals.specs.Verdict.{Named, EndsWith, refused}
-use Rattle.pc_refusals.specs.Source.{source_limit}
-use Rattle.pc_core_commands.specs.Events.{EventsTelling}
-use Rattle.pc_top.specs.Commands.Events.{IsEvents}
-use Rattle.pc_core_commands.specs.Events.EventsTelling.{tells, too_long, too_many}
-use Rattle.pc_top.specs.CoresFormed.{CoresAreFormed}
+use Rattle.pc_refusals.specs.{Verdict.{Named, EndsWith, refused}, Source.source_limit}
+use Rattle.pc_commands.specs.{Events.EventsTelling, Events.EventsTelling.{tells, too_long, too_many}}
+use Rattle.pc_top.specs.{Commands.Events.IsEvents, CoresFormed.CoresAreFormed}
 use Rattle.pc_top.proofs.Deriving.{accepted_core_safe, accepted_source, source_formed}
-use Rattle.pc_verdicts.proofs.Clocks.{carries_told, clocks_are_there, event_at, event_below}
-use Rattle.pc_verdicts.proofs.Deciding.{some_told}
-use Rattle.pc_verdicts.proofs.Placing.{Listed, listed_more, listed_none, listed_rest}
-use Rattle.pc_verdicts.proofs.Shapes.{scheduled_answers}
-use Rattle.pc_verdicts.proofs.Stages.{Answers, HasEnd, ReadOn, ends_answer}
-use Rattle.pc_verdicts.proofs.Tracing.{Noted, RunEnd, all_noted, long, many, note_touch, ran, run_end, skip_touch, unaccessed}
+use Rattle.pc_verdicts.proofs.{Clocks.{carries_told, clocks_are_there, event_at, event_below}, Deciding.some_told, Placing.{Listed, listed_more, listed_none, listed_rest}, Shapes.scheduled_answers, Stages.{Answers, HasEnd, ReadOn, ends_answer}, Tracing.{Noted, RunEnd, all_noted, long, many, note_touch, ran, run_end, skip_touch, unaccessed}}
 
 module _ (core : CoreData) (list : List ℕ) where
   abbrev place_of : RunEvent → ℕ

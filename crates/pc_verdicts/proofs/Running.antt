@@ -1,38 +1,21 @@
 -- Commands that run a program have a verdict: `run`, `make` and `play`; and so does `schedule`.
 use Rattle.std.proofs.Common.{ℕ, List, [], ◌∷◌, Ok, inl, inr, refl, subst, arith}
-use Rattle.std.specs.Prelude.{IsSome}
-use Rattle.std.specs.List.{AllByRecursion}
+use Rattle.std.specs.{Prelude.IsSome, List.AllByRecursion}
 use Rattle.pc_args.specs.Line.{IsSeed, IsSize}
-use Rattle.pc_choose.proofs.Cutting.{lists_are_in_turns}
-use Rattle.pc_choose.proofs.Listing.{lists_are_one, lists_are_short}
-use Rattle.pc_choose.specs.Laws.{IsTurn}
-use Rattle.pc_choose.specs.Lists.{Chosen}
+use Rattle.pc_choose.proofs.{Cutting.lists_are_in_turns, Listing.{lists_are_one, lists_are_short}}
+use Rattle.pc_choose.specs.{Laws.IsTurn, Lists.Chosen}
 use Rattle.pc_core.specs.CoreData.{CoreData}
 use Rattle.pc_gen.specs.Generated.{generated_text, schedule as own_schedule}
-use Rattle.pc_lists.specs.Lists.{Text}
-use Rattle.pc_run.specs.Ends.{NeverLacks}
-use Rattle.pc_run.specs.Spreading.{spread}
+use Rattle.pc_base.specs.Lists.{Text}
+use Rattle.pc_run.specs.{Ends.NeverLacks, Spreading.spread}
 use Rattle.pc_sched.specs.Schedules.{schedule_limit}
 use Rattle.pc_types.specs.Laws.{AcceptedNeverLacks}
-use Rattle.pc_refusals.specs.Source.{AcceptedStage, source_limit}
+use Rattle.pc_refusals.specs.{Source.{AcceptedStage, source_limit}, Verdict.{Named, Reading, text_as, done, headed, refused}, declared.typing.Accepted.Accepted}
 use Rattle.pc_refusal_lines.specs.Lines.{usage_line}
-use Rattle.pc_refusals.specs.Verdict.{Named, Reading, text_as, done, headed, refused}
-use Rattle.pc_refusals.specs.declared.typing.Accepted.{Accepted}
-use Rattle.pc_core_commands.specs.Make.{made_line, made_name}
-use Rattle.pc_top.specs.Commands.Make.{IsMade, IsMake, MadeRun}
-use Rattle.pc_top.specs.Commands.Make.IsMake.{made, no_numbers}
-use Rattle.pc_top.specs.Commands.Play.{IsPlay, Played}
-use Rattle.pc_core_commands.specs.Run.{Ran}
-use Rattle.pc_top.specs.Commands.Run.{IsRun}
-use Rattle.pc_core_commands.specs.Schedule.{IsChosenLine}
-use Rattle.pc_top.specs.Commands.Schedule.{IsSchedule, Scheduled}
-use Rattle.pc_top.specs.Shapes.{OfAccepted}
-use Rattle.pc_top.specs.CoresFormed.{CoresAreFormed}
+use Rattle.pc_commands.specs.{Make.{made_line, made_name}, Run.Ran, Schedule.IsChosenLine}
+use Rattle.pc_top.specs.{Commands.Make.{IsMade, IsMake, MadeRun}, Commands.Make.IsMake.{made, no_numbers}, Commands.Play.{IsPlay, Played}, Commands.Run.IsRun, Commands.Schedule.{IsSchedule, Scheduled}, Shapes.OfAccepted, CoresFormed.CoresAreFormed}
 use Rattle.pc_top.proofs.Deriving.{accepted_lacks_nothing}
-use Rattle.pc_verdicts.proofs.Numbers.{number_answers, seed_read, size_read, Read}
-use Rattle.pc_verdicts.proofs.Runs.{Small, line_is_there, ran_answers, small_steps}
-use Rattle.pc_verdicts.proofs.Shapes.{accepted_answers, scheduled_answers}
-use Rattle.pc_verdicts.proofs.Stages.{Answers, ReadOn}
+use Rattle.pc_verdicts.proofs.{Numbers.{number_answers, seed_read, size_read, Read}, Runs.{Small, line_is_there, ran_answers, small_steps}, Shapes.{accepted_answers, scheduled_answers}, Stages.{Answers, ReadOn}}
 
 -- ---- the list of a seed
 

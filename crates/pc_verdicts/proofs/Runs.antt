@@ -1,19 +1,15 @@
 -- A run of a program that lacks nothing has a verdict, and a list of steps has a line.
-use Rattle.std.proofs.Common.{◌≡◌, ◌<◌, ◌≤◌, ◌^◌, ℕ, zero, suc, List, [], ◌∷◌, ◌++◌, length, replicate, inl, inr, refl, sym, ap, ◌∙◌, arith}
+use Rattle.std.proofs.{Common.{◌≡◌, ◌<◌, ◌≤◌, ◌^◌, ℕ, zero, suc, List, [], ◌∷◌, ◌++◌, length, replicate, inl, inr, refl, sym, ap, ◌∙◌, arith}, lemmas.Bool.cases_eq}
 use Rattle.std.specs.List.{AllByRecursion}
-use Rattle.std.proofs.lemmas.Bool.{cases_eq}
 use Rattle.pc_core.specs.CoreData.{CoreData}
-use Rattle.pc_lists.specs.Lists.{Text}
-use Rattle.pc_run.specs.Ends.{NeverLacks}
-use Rattle.pc_run.specs.Spreading.{spread}
-use Rattle.pc_sched.specs.Schedules.{turn_limit}
-use Rattle.pc_sched.specs.declared.turns.Turn.{Turn}
-use Rattle.pc_sched_lines.specs.Lines.{IsLine, line_of, HasOtherActor}
-use Rattle.pc_sched_lines.specs.Rows.{RowsOf}
+use Rattle.pc_base.specs.Lists.{Text}
+use Rattle.pc_run.specs.{Ends.NeverLacks, Spreading.spread}
+use Rattle.pc_sched.specs.{Schedules.turn_limit, declared.turns.Turn.Turn}
+use Rattle.pc_sched_lines.specs.{Lines.{IsLine, line_of, HasOtherActor}, Rows.RowsOf}
 use Rattle.pc_sched_lines.proofs.Spelling.{is_line}
 use Rattle.pc_semantics.specs.Text.{steps_of}
-use Rattle.pc_core_commands.specs.Run.{Ran}
-use Rattle.pc_core_commands.proofs.RunEnds.{has_verdict}
+use Rattle.pc_commands.specs.Run.{Ran}
+use Rattle.pc_commands.proofs.RunEnds.{has_verdict}
 use Rattle.pc_verdicts.proofs.Stages.{Answers}
 
 pub ran_answers : (name : Text) (core : CoreData) (list : List ℕ) → NeverLacks core → Answers (Ran name core list)

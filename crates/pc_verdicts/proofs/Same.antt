@@ -1,10 +1,7 @@
 -- Whether two things are the same is decidable.
-use Rattle.std.proofs.Common.{◌≡◌, ◌⊎◌, ℕ, zero, suc, Option, Some, None, inl, inr, refl, sym, ap, ◌∙◌}
-use Rattle.std.proofs.lemmas.Bool.{cases_eq}
-use Rattle.std.proofs.lemmas.Option.{none-some, same_Some}
-use Rattle.pc_caps.specs.declared.capability.Cap.{Cap}
+use Rattle.std.proofs.{Common.{◌≡◌, ◌⊎◌, ℕ, zero, suc, Option, Some, None, inl, inr, refl, sym, ap, ◌∙◌}, lemmas.Bool.cases_eq, lemmas.Option.{none-some, same_Some}}
+use Rattle.pc_caps.specs.{declared.capability.Cap.Cap, declared.capability.Form.Form}
 use Rattle.pc_caps.specs.declared.capability.Cap.TheVariants as cap
-use Rattle.pc_caps.specs.declared.capability.Form.{Form}
 use Rattle.pc_caps.specs.declared.capability.Form.TheVariants as form
 use Rattle.pc_masks.specs.declared.mask.Mask.{Mask}
 use Rattle.pc_rules.specs.declared.said.Said.{Said}

@@ -1,47 +1,22 @@
 -- `sends` has a verdict: the table of who sends what exists.
-use Rattle.std.proofs.Common.{◌≡◌, ◌⊎◌, ◌<◌, ◌≤◌, ◌+◌, ℕ, zero, suc, true, false, List, [], ◌++◌, map, length, Option, Some, None, inl, inr, refl, sym, ap, ◌∙◌, subst, arith}
+use Rattle.std.proofs.{Common.{◌≡◌, ◌⊎◌, ◌<◌, ◌≤◌, ◌+◌, ℕ, zero, suc, true, false, List, [], ◌++◌, map, length, Option, Some, None, inl, inr, refl, sym, ap, ◌∙◌, subst, arith}, lemmas.Bool.cases_eq, lemmas.Option.{none-some, same_Some}}
 use Rattle.std.specs.Prelude.{IsSome, slice_get}
-use Rattle.std.proofs.lemmas.Bool.{cases_eq}
-use Rattle.std.proofs.lemmas.Option.{none-some, same_Some}
-use Rattle.pc_core.specs.CoreData.{CoreData, method_named}
-use Rattle.pc_core.specs.Formed.{Formed}
-use Rattle.pc_core.specs.declared.declarations.EntityDef.{EntityDef}
-use Rattle.pc_core.specs.declared.declarations.Method.{Method}
-use Rattle.pc_core.specs.declared.declarations.MethodKind.{MethodKind}
+use Rattle.pc_core.specs.{CoreData.{CoreData, method_named}, Formed.Formed, declared.declarations.EntityDef.EntityDef, declared.declarations.Method.Method, declared.declarations.MethodKind.MethodKind, declared.nodes.Node.Node, declared.nodes.NodeKind.NodeKind, Entities.Conforms}
 use Rattle.pc_core.specs.declared.declarations.MethodKind.TheVariants as method
-use Rattle.pc_core.specs.declared.nodes.Node.{Node}
-use Rattle.pc_core.specs.declared.nodes.NodeKind.{NodeKind}
 use Rattle.pc_core.specs.declared.nodes.NodeKind.TheVariants as nodes
-use Rattle.pc_lists.proofs.Gets.{get_below}
+use Rattle.pc_base.proofs.Gets.{get_below}
 use Rattle.pc_noted_receivers.specs.Noted.{noted_entities}
 use Rattle.pc_semantics.specs.Configurations.{main_create}
-use Rattle.pc_sends.proofs.Filtered.{filtered_all}
-use Rattle.pc_sends.proofs.Homes.{method_there}
-use Rattle.pc_sends.proofs.Tabled.{RowsTo, rows_all, rows_next, rows_none}
-use Rattle.pc_sends.proofs.There.{reach_below}
-use Rattle.pc_sends.specs.Tables.{IsOrConformsTo, MayBe, IsSent, Posts, Reach, Sends, is_message, IsLater, IsNever, IsOfActor, IsOwnActor, IsTable, row, Aims, MayCall, UsesMethod, is_called, noted_receiver}
-use Rattle.pc_sends.specs.Tables.Reach.{first as begins, next as goes_on}
-use Rattle.pc_sends.specs.Reached.{AreSent}
-use Rattle.pc_sends.specs.declared.table.Row.{Row}
-use Rattle.pc_sends.specs.declared.table.Table.{Table}
-use Rattle.pc_core.specs.Entities.{Conforms}
-use Rattle.pc_sub.specs.DeclarationFaults.{conform_faults}
-use Rattle.pc_sub.specs.Faults.{conformed, conforms}
-use Rattle.pc_sub.specs.declared.faults.DeclFault.{DeclFault}
-use Rattle.pc_tree.specs.Kinds.{first_own, is_abstract}
-use Rattle.pc_tree.specs.declared.kinds.EntityKind.{EntityKind}
+use Rattle.pc_sends.proofs.{Filtered.filtered_all, Homes.method_there, Tabled.{RowsTo, rows_all, rows_next, rows_none}, There.reach_below}
+use Rattle.pc_sends.specs.{Tables.{IsOrConformsTo, MayBe, IsSent, Posts, Reach, Sends, is_message, IsLater, IsNever, IsOfActor, IsOwnActor, IsTable, row, Aims, MayCall, UsesMethod, is_called, noted_receiver}, Tables.Reach.{first as begins, next as goes_on}, Reached.AreSent, declared.table.Row.Row, declared.table.Table.Table}
+use Rattle.pc_sub.specs.{DeclarationFaults.conform_faults, Faults.{conformed, conforms}, declared.faults.DeclFault.DeclFault}
+use Rattle.pc_tree.specs.{Kinds.{first_own, is_abstract}, declared.kinds.EntityKind.EntityKind}
 use Rattle.pc_tree.specs.declared.kinds.EntityKind.TheVariants as kind
-use Rattle.pc_refusals.specs.Verdict.{Named, done}
-use Rattle.pc_refusals.specs.Source.{source_limit}
-use Rattle.pc_core_commands.specs.Sends.{table_text}
-use Rattle.pc_top.specs.Commands.Sends.{IsSends, Sent}
-use Rattle.pc_top.specs.CoresFormed.{CoresAreFormed}
+use Rattle.pc_refusals.specs.{Verdict.{Named, done}, Source.source_limit}
+use Rattle.pc_commands.specs.Sends.{table_text}
+use Rattle.pc_top.specs.{Commands.Sends.{IsSends, Sent}, CoresFormed.CoresAreFormed}
 use Rattle.pc_top.proofs.Deriving.{accepted_source, source_formed}
-use Rattle.pc_verdicts.proofs.Chains.{Led, led_more, led_told, more, one}
-use Rattle.pc_verdicts.proofs.Deciding.{at_told, both_told, either_told, false_told, filtered, is_told, least_told, less_told, not_told, some_told, true_told, turned}
-use Rattle.pc_verdicts.proofs.Same.{Told}
-use Rattle.pc_verdicts.proofs.Shapes.{accepted_answers}
-use Rattle.pc_verdicts.proofs.Stages.{Answers, ReadOn}
+use Rattle.pc_verdicts.proofs.{Chains.{Led, led_more, led_told, more, one}, Deciding.{at_told, both_told, either_told, false_told, filtered, is_told, least_told, less_told, not_told, some_told, true_told, turned}, Same.Told, Shapes.accepted_answers, Stages.{Answers, ReadOn}}
 
 be_told : (k : MethodKind) → Told (k ≡ method.Be)
 be_told method.Be = inl refl

@@ -3,33 +3,16 @@ use Rattle.std.proofs.Common.{List, Ok, Err, inl, inr}
 use Rattle.std.specs.Prelude.{IsSome, Result, codes}
 use Rattle.pc_ann.specs.declared.annotation.Ann.{Ann}
 use Rattle.pc_deriv.proofs.Whole.{read_whole}
-use Rattle.pc_deriv.specs.Laws.{IsRead, as_read}
-use Rattle.pc_deriv.specs.Text.{derivation_limit}
-use Rattle.pc_deriv.specs.Lines.{ended_so, fed, nothing_taken}
-use Rattle.pc_deriv.specs.declared.line.Line.{Line}
-use Rattle.pc_deriv.specs.declared.line.LineFault.{LineFault}
-use Rattle.pc_lists.specs.Lists.{Text}
+use Rattle.pc_deriv.specs.{Laws.{IsRead, as_read}, Text.derivation_limit, Lines.{ended_so, fed, nothing_taken}, declared.line.Line.Line, declared.line.LineFault.LineFault}
+use Rattle.pc_base.specs.Lists.{Text}
 use Rattle.pc_run.specs.Spreading.{spread}
 use Rattle.pc_sched.proofs.Together.{told}
-use Rattle.pc_sched.specs.Schedules.{schedule_limit, FirstScheduleFault}
-use Rattle.pc_sched.specs.declared.fault.SchedFault.{SchedFault}
-use Rattle.pc_sched.specs.declared.fault.SchedFault.TheVariants.{BadWord, Memory, TooMany}
-use Rattle.pc_sched.specs.declared.turns.Turn.{Turn}
-use Rattle.pc_refusals.specs.Source.{AcceptedStage, Typing, ScheduleStage, Scheduling, Length, SourceStage, source_limit}
-use Rattle.pc_refusals.specs.Derivation.{DerivationStage, Deriving, Judging, text_line, text_status}
-use Rattle.pc_refusals.specs.Derivation.Deriving.{garbled, reads}
-use Rattle.pc_refusals.specs.Verdict.{Named, Reading, EndsAs, Verdict, refused}
+use Rattle.pc_sched.specs.{Schedules.{schedule_limit, FirstScheduleFault}, declared.fault.SchedFault.SchedFault, declared.fault.SchedFault.TheVariants.{BadWord, Memory, TooMany}, declared.turns.Turn.Turn}
+use Rattle.pc_refusals.specs.{Source.{AcceptedStage, Typing, ScheduleStage, Scheduling, Length, SourceStage, source_limit}, Derivation.{DerivationStage, Deriving, Judging, text_line, text_status}, Derivation.Deriving.{garbled, reads}, Verdict.{Named, Reading, EndsAs, Verdict, refused}, Source.Scheduling.{bad_word, scheduled, too_many}, declared.source.Source.Source, declared.typing.Accepted.Accepted}
 use Rattle.pc_refusal_lines.specs.Lines.{offset_line}
-use Rattle.pc_refusals.specs.Source.Scheduling.{bad_word, scheduled, too_many}
-use Rattle.pc_refusals.specs.declared.source.Source.{Source}
-use Rattle.pc_refusals.specs.declared.typing.Accepted.{Accepted}
-use Rattle.pc_top.specs.Shapes.{LastOfTurns, OfAccepted, OfDerivation, OfJudged, OfScheduled, OfTurns}
-use Rattle.pc_top.specs.CoresFormed.{CoresAreFormed}
+use Rattle.pc_top.specs.{Shapes.{LastOfTurns, OfAccepted, OfDerivation, OfJudged, OfScheduled, OfTurns}, CoresFormed.CoresAreFormed}
 use Rattle.pc_top.proofs.Deriving.{source_formed}
-use Rattle.pc_verdicts.proofs.Elaborated.{source_ends}
-use Rattle.pc_verdicts.proofs.Judged.{judging_ends}
-use Rattle.pc_verdicts.proofs.Stages.{Answers, HasEnd, ReadOn, after_ends, ends_answer, file_answers, read_file}
-use Rattle.pc_verdicts.proofs.Typed.{checked, typing_ends}
+use Rattle.pc_verdicts.proofs.{Elaborated.source_ends, Judged.judging_ends, Stages.{Answers, HasEnd, ReadOn, after_ends, ends_answer, file_answers, read_file}, Typed.{checked, typing_ends}}
 
 -- ---- a schedule
 

@@ -5,28 +5,16 @@ use Rattle.pc_core.specs.CoreData.{CoreData}
 use Rattle.pc_explain.specs.Explanation.IsExplanation.{declared, no_rule, unset}
 use Rattle.pc_grammar.specs.FileAnswers.{IsFileAnswer, spelled}
 use Rattle.pc_lex.specs.Pieces.{TokenList}
-use Rattle.pc_lists.specs.Lists.{Text}
+use Rattle.pc_base.specs.Lists.{Text}
 use Rattle.pc_places.specs.Text.{places_text}
 use Rattle.pc_print.specs.Printing.{printed}
 use Rattle.pc_token.specs.declared.kinds.Token.{Token}
 use Rattle.pc_tree.specs.Tree as t
-use Rattle.pc_refusals.specs.Verdict.{Named, Reading, Verdict, done}
-use Rattle.pc_refusals.specs.Source.{Elaborating, FileStage, SourceStage, source_limit}
-use Rattle.pc_refusals.specs.Source.Elaborating.{elaborated, misnamed, misused}
-use Rattle.pc_refusals.specs.declared.source.Source.{Source}
-use Rattle.pc_core_commands.specs.Explain.{CoreText, Explaining, fault_end}
-use Rattle.pc_top.specs.Commands.Explain.{Explained, ExplainedStage, IsExplain}
-use Rattle.pc_core_commands.specs.Explain.CoreText.{accepted, explained}
-use Rattle.pc_top.specs.Commands.Explain.ExplainedStage.{has_none, has_tree}
-use Rattle.pc_core_commands.specs.Explain.Explaining.{has_core as core_explained, has_fault}
-use Rattle.pc_core_commands.specs.Judge.{accepted_text}
-use Rattle.pc_top.specs.Commands.Places.{IsPlaces, Placed}
-use Rattle.pc_top.specs.Commands.Show.{IsShow, Shown}
-use Rattle.pc_top.specs.CoresFormed.{CoresAreFormed}
+use Rattle.pc_refusals.specs.{Verdict.{Named, Reading, Verdict, done}, Source.{Elaborating, FileStage, SourceStage, source_limit}, Source.Elaborating.{elaborated, misnamed, misused}, declared.source.Source.Source}
+use Rattle.pc_commands.specs.{Explain.{CoreText, Explaining, fault_end}, Explain.CoreText.{accepted, explained}, Explain.Explaining.{has_core as core_explained, has_fault}, Judge.accepted_text}
+use Rattle.pc_top.specs.{Commands.Explain.{Explained, ExplainedStage, IsExplain}, Commands.Explain.ExplainedStage.{has_none, has_tree}, Commands.Places.{IsPlaces, Placed}, Commands.Show.{IsShow, Shown}, CoresFormed.CoresAreFormed}
 use Rattle.pc_top.proofs.Deriving.{file_says, source_says}
-use Rattle.pc_verdicts.proofs.Elaborated.{elaborating_ends, file_ends, source_ends}
-use Rattle.pc_verdicts.proofs.Stages.{Answers, HasEnd, ReadOn, file_answers, read_file}
-use Rattle.pc_verdicts.proofs.Typed.{Checked, checked, fails, is_valid, left, stopped}
+use Rattle.pc_verdicts.proofs.{Elaborated.{elaborating_ends, file_ends, source_ends}, Stages.{Answers, HasEnd, ReadOn, file_answers, read_file}, Typed.{Checked, checked, fails, is_valid, left, stopped}}
 
 -- ---- `show`
 

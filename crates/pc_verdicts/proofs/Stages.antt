@@ -1,14 +1,9 @@
 -- Stages that have an end, one after another.
-use Rattle.std.proofs.Common.{◌<◌, ℕ, length, Option, Some, None, Ok, Err, inl, inr, refl}
+use Rattle.std.proofs.{Common.{◌<◌, ℕ, length, Option, Some, None, Ok, Err, inl, inr, refl}, lemmas.Bool.{cases_lt, false≢true}}
 use Rattle.std.specs.Prelude.{IfSome, IsSome, Result}
-use Rattle.std.proofs.lemmas.Bool.{cases_lt, false≢true}
-use Rattle.pc_lists.specs.Lists.{Text}
-use Rattle.pc_refusals.specs.Source.{After, FromFile, Length}
-use Rattle.pc_refusals.specs.Source.After.{stops, goes}
-use Rattle.pc_refusals.specs.Source.FromFile.{refuses, goes_on}
+use Rattle.pc_base.specs.Lists.{Text}
+use Rattle.pc_refusals.specs.{Source.{After, FromFile, Length}, Source.After.{stops, goes}, Source.FromFile.{refuses, goes_on}, Verdict.{Named, Reading, IsReading, IsReadingOf, longer, whole, EndsAs, Verdict, ended, refused}, Source.Length.{fits, is_longer}}
 use Rattle.pc_refusal_lines.specs.Lines.{longer_line}
-use Rattle.pc_refusals.specs.Verdict.{Named, Reading, IsReading, IsReadingOf, longer, whole, EndsAs, Verdict, ended, refused}
-use Rattle.pc_refusals.specs.Source.Length.{fits, is_longer}
 
 -- The stage ends with a value or a refusal.
 abbrev pub HasEnd : {T : Type 0} → (Result T Verdict → Type 0) → Type 0

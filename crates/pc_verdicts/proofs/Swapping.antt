@@ -1,44 +1,25 @@
 -- `swap` has a verdict.
-use Rattle.std.proofs.Common.{◌≡◌, ◌≢◌, ◌≤◌, ◌+◌, ◌-◌, ℕ, Bool, true, false, List, [], ◌∷◌, ◌++◌, length, map, None, Ok, Err, inl, inr, refl, sym, subst, arith}
-use Rattle.std.specs.Prelude.{IsSome}
-use Rattle.std.specs.List.{AllByRecursion}
-use Rattle.std.proofs.lemmas.Bool.{cases_eq, cases_lt}
+use Rattle.std.proofs.{Common.{◌≡◌, ◌≢◌, ◌≤◌, ◌+◌, ◌-◌, ℕ, Bool, true, false, List, [], ◌∷◌, ◌++◌, length, map, None, Ok, Err, inl, inr, refl, sym, subst, arith}, lemmas.Bool.{cases_eq, cases_lt}}
+use Rattle.std.specs.{Prelude.IsSome, List.AllByRecursion}
 use Rattle.pc_core.specs.CoreData.{CoreData}
-use Rattle.pc_lists.specs.Lists.{Text}
+use Rattle.pc_base.specs.Lists.{Text}
 use Rattle.pc_regions.specs.Laws.{ValidIsSafe}
-use Rattle.pc_run.specs.Ends.{NeverLacks}
-use Rattle.pc_run.specs.Spreading.{spread}
-use Rattle.pc_sched.specs.Schedules.{schedule_limit, turn_limit, SchedulePiece, SpelledTurns, SpellsTurn, TurnList, blank, word}
-use Rattle.pc_sched.specs.declared.turns.Turn.{Turn}
+use Rattle.pc_run.specs.{Ends.NeverLacks, Spreading.spread}
+use Rattle.pc_sched.specs.{Schedules.{schedule_limit, turn_limit, SchedulePiece, SpelledTurns, SpellsTurn, TurnList, blank, word}, declared.turns.Turn.Turn}
 use Rattle.pc_sched_lines.proofs.Spreads.{length-spread}
-use Rattle.pc_semantics.specs.Ahead.{ahead_of}
-use Rattle.pc_semantics.specs.Step.{after, outcomes}
-use Rattle.pc_semantics.specs.Safety.{Safe}
-use Rattle.pc_semantics.specs.Text.{end_of}
-use Rattle.pc_swap.proofs.Orders.{steps_swap, whole_lists_swap}
-use Rattle.pc_swap.proofs.Telling.{are_apart, both_make, first_stays, second_stays, to_one}
-use Rattle.pc_swap.specs.Apart.{Apart, IsKept}
-use Rattle.pc_swap.specs.Ends.{is_moving, one_receiver, two_spawns}
-use Rattle.pc_swap.specs.declared.kept.Kept.{Kept}
+use Rattle.pc_semantics.specs.{Ahead.ahead_of, Step.{after, outcomes}, Safety.Safe, Text.end_of}
+use Rattle.pc_swap.proofs.{Orders.{steps_swap, whole_lists_swap}, Telling.{are_apart, both_make, first_stays, second_stays, to_one}}
+use Rattle.pc_swap.specs.{Apart.{Apart, IsKept}, Ends.{is_moving, one_receiver, two_spawns}, declared.kept.Kept.Kept}
 use Rattle.pc_swap.specs.declared.kept.Kept.TheVariants as kept
 use Rattle.pc_types.specs.Laws.{AcceptedNeverLacks}
 use Rattle.pc_refusal_lines.specs.Lines.{no_place_line, too_long_line, usage_line}
-use Rattle.pc_refusals.specs.Verdict.{Named, EndsWith, refused}
-use Rattle.pc_refusals.specs.Source.{source_limit}
+use Rattle.pc_refusals.specs.{Verdict.{Named, EndsWith, refused}, Source.source_limit}
 use Rattle.pc_refusals.proofs.Scheduled.{few_turns, schedule_says}
-use Rattle.pc_core_commands.specs.Swap.{IsPlace, Neighbours, StandAt, SwapText, Swapping, kept_line}
-use Rattle.pc_top.specs.Commands.Swap.{IsSwap, IsSwapAt}
-use Rattle.pc_top.specs.Commands.Swap.IsSwap.{no_number, placed}
-use Rattle.pc_core_commands.specs.Swap.SwapText.{exchanged, stay}
-use Rattle.pc_core_commands.specs.Swap.Swapping.{no_place, tells, too_long}
-use Rattle.pc_top.specs.CoresFormed.{CoresAreFormed}
+use Rattle.pc_commands.specs.{Swap.{IsPlace, Neighbours, StandAt, SwapText, Swapping, kept_line}, Swap.SwapText.{exchanged, stay}, Swap.Swapping.{no_place, tells, too_long}}
+use Rattle.pc_top.specs.{Commands.Swap.{IsSwap, IsSwapAt}, Commands.Swap.IsSwap.{no_number, placed}, CoresFormed.CoresAreFormed}
 use Rattle.pc_top.proofs.Deriving.{accepted_core_safe, accepted_lacks_nothing}
-use Rattle.pc_core_commands.proofs.Neighbouring.{length_exchanged, turns_at}
-use Rattle.pc_core_commands.proofs.RunEnds.{run_ends}
-use Rattle.pc_verdicts.proofs.Numbers.{Read, place_read}
-use Rattle.pc_verdicts.proofs.Runs.{Small, line_is_there, small_append, small_steps}
-use Rattle.pc_verdicts.proofs.Shapes.{scheduled_answers}
-use Rattle.pc_verdicts.proofs.Stages.{Answers, HasEnd, ReadOn, ends_answer}
+use Rattle.pc_commands.proofs.{Neighbouring.{length_exchanged, turns_at}, RunEnds.run_ends}
+use Rattle.pc_verdicts.proofs.{Numbers.{Read, place_read}, Runs.{Small, line_is_there, small_append, small_steps}, Shapes.scheduled_answers, Stages.{Answers, HasEnd, ReadOn, ends_answer}}
 
 -- ---- the actors of a schedule have small numbers
 

@@ -1,32 +1,17 @@
 -- `outcomes` has a verdict.
-use Rattle.std.proofs.Common.{◌≡◌, ◌⊎◌, ◌<◌, ◌≤◌, ◌+◌, ℕ, zero, suc, Bool, true, false, List, [], ◌∷◌, ◌++◌, length, Ok, Err, inl, inr, refl, subst, arith}
-use Rattle.std.specs.Prelude.{IsSome}
-use Rattle.std.specs.List.{list_any}
-use Rattle.std.proofs.lemmas.Bool.{cases_lt}
+use Rattle.std.proofs.{Common.{◌≡◌, ◌⊎◌, ◌<◌, ◌≤◌, ◌+◌, ℕ, zero, suc, Bool, true, false, List, [], ◌∷◌, ◌++◌, length, Ok, Err, inl, inr, refl, subst, arith}, lemmas.Bool.cases_lt}
+use Rattle.std.specs.{Prelude.IsSome, List.list_any}
 use Rattle.pc_choose.proofs.Listing.{lists_are_one}
 use Rattle.pc_choose.specs.Able.{able_actors}
 use Rattle.pc_core.specs.CoreData.{CoreData}
-use Rattle.pc_lists.specs.Lists.{Text}
-use Rattle.pc_outcomes.specs.Plays.{IsPlayOfSeed, ending_after}
-use Rattle.pc_outcomes.specs.Tables.{StepsPass, TextsPass, IsOutcomesTable, shows_outcome, steps_limit, texts_limit, total_steps, total_texts}
-use Rattle.pc_outcomes.specs.Texts.{outcomes_text}
-use Rattle.pc_outcomes.specs.Under.{entry_of}
-use Rattle.pc_outcomes.specs.declared.entry.Entry.{Entry}
-use Rattle.pc_outcomes.specs.declared.entry.Play.{Play}
-use Rattle.pc_outcomes.proofs.Grouping.{counted}
-use Rattle.pc_outcomes.proofs.Growing.{none_yet, with_new, with_shown}
-use Rattle.pc_semantics.specs.Step.{after, outcomes}
-use Rattle.pc_semantics.specs.Text.{end_of, lines}
-use Rattle.pc_refusals.specs.Verdict.{Named, refused}
-use Rattle.pc_refusals.specs.Source.{source_limit}
-use Rattle.pc_core_commands.specs.Outcomes.{IsCount, OutcomesTelling, many_bytes_line, many_steps_line}
-use Rattle.pc_top.specs.Commands.Outcomes.{IsOutcomes, Tabled}
-use Rattle.pc_core_commands.specs.Outcomes.OutcomesTelling.{many_bytes, many_steps, tells}
-use Rattle.pc_top.specs.Shapes.{OfAccepted}
-use Rattle.pc_top.specs.CoresFormed.{CoresAreFormed}
-use Rattle.pc_verdicts.proofs.Numbers.{count_read, number_answers}
-use Rattle.pc_verdicts.proofs.Shapes.{accepted_answers}
-use Rattle.pc_verdicts.proofs.Stages.{Answers, HasEnd, ReadOn, ends_answer}
+use Rattle.pc_base.specs.Lists.{Text}
+use Rattle.pc_outcomes.specs.{Plays.{IsPlayOfSeed, ending_after}, Tables.{StepsPass, TextsPass, IsOutcomesTable, shows_outcome, steps_limit, texts_limit, total_steps, total_texts}, Texts.outcomes_text, Under.entry_of, declared.entry.Entry.Entry, declared.entry.Play.Play}
+use Rattle.pc_outcomes.proofs.{Grouping.counted, Growing.{none_yet, with_new, with_shown}}
+use Rattle.pc_semantics.specs.{Step.{after, outcomes}, Text.{end_of, lines}}
+use Rattle.pc_refusals.specs.{Verdict.{Named, refused}, Source.source_limit}
+use Rattle.pc_commands.specs.{Outcomes.{IsCount, OutcomesTelling, many_bytes_line, many_steps_line}, Outcomes.OutcomesTelling.{many_bytes, many_steps, tells}}
+use Rattle.pc_top.specs.{Commands.Outcomes.{IsOutcomes, Tabled}, Shapes.OfAccepted, CoresFormed.CoresAreFormed}
+use Rattle.pc_verdicts.proofs.{Numbers.{count_read, number_answers}, Shapes.accepted_answers, Stages.{Answers, HasEnd, ReadOn, ends_answer}}
 
 module _ (core : CoreData) where
   play_of : (seed : ℕ) → (p : Play) × IsPlayOfSeed core seed p

@@ -1,48 +1,25 @@
 -- `trace` has a verdict.
-use Rattle.std.proofs.Common.{◌≡◌, ◌⊎◌, ◌≤◌, ◌+◌, ℕ, zero, suc, List, [], ◌∷◌, ◌++◌, length, take, Option, Some, None, Ok, Err, inl, inr, refl, sym, ap, ◌∙◌, subst, arith}
+use Rattle.std.proofs.{Common.{◌≡◌, ◌⊎◌, ◌≤◌, ◌+◌, ℕ, zero, suc, List, [], ◌∷◌, ◌++◌, length, take, Option, Some, None, Ok, Err, inl, inr, refl, sym, ap, ◌∙◌, subst, arith}, lemmas.Bool.{cases_eq, cases_lt}, lemmas.Option.none-some}
 use Rattle.std.specs.Prelude.{IsSome, slice_get}
-use Rattle.std.proofs.lemmas.Bool.{cases_eq, cases_lt}
-use Rattle.std.proofs.lemmas.Option.{none-some}
 use Rattle.pc_core.specs.CoreData.{CoreData}
-use Rattle.pc_events.proofs.Boxes.{Boxes}
-use Rattle.pc_events.proofs.Events.{one_actor}
-use Rattle.pc_events.proofs.Order.{earlier_comes_before}
-use Rattle.pc_events.proofs.Outcomes.{turn}
-use Rattle.pc_events.proofs.Totals.{moving, resting}
-use Rattle.pc_events.specs.Before.{Event, at_place}
-use Rattle.pc_events.specs.Clock.{Clocks}
-use Rattle.pc_events.specs.Counting.{Live}
-use Rattle.pc_lists.proofs.Gets.{get_within}
-use Rattle.pc_lists.specs.Lists.{Text}
+use Rattle.pc_events.proofs.{Boxes.Boxes, Events.one_actor, Order.earlier_comes_before, Outcomes.turn, Totals.{moving, resting}}
+use Rattle.pc_events.specs.{Before.{Event, at_place}, Clock.Clocks, Counting.Live}
+use Rattle.pc_base.proofs.Gets.{get_within}
+use Rattle.pc_base.specs.Lists.{Text}
 use Rattle.pc_regions.specs.Laws.{ValidIsSafe}
 use Rattle.pc_run.specs.Spreading.{spread}
 use Rattle.pc_sched.specs.Schedules.{schedule_limit}
-use Rattle.pc_semantics.specs.Ahead.{ahead_of}
-use Rattle.pc_semantics.specs.Configurations.{Configuration, start}
-use Rattle.pc_semantics.specs.Step.{after, outcomes, step}
-use Rattle.pc_semantics.specs.Safety.{LacksNothing, Safe, access}
-use Rattle.pc_semantics.specs.declared.access.Access.{Access}
-use Rattle.pc_semantics.specs.declared.ahead.Ahead.{Ahead}
+use Rattle.pc_semantics.specs.{Ahead.ahead_of, Configurations.{Configuration, start}, Step.{after, outcomes, step}, Safety.{LacksNothing, Safe, access}, declared.access.Access.Access, declared.ahead.Ahead.Ahead, declared.outcome.Outcome.Outcome, declared.outcome.Outcome.TheVariants.{Lacks, Moved, Skipped, TooLong}}
 use Rattle.pc_semantics.specs.declared.ahead.Ahead.TheVariants as ahead
-use Rattle.pc_semantics.specs.declared.outcome.Outcome.{Outcome}
-use Rattle.pc_semantics.specs.declared.outcome.Outcome.TheVariants.{Lacks, Moved, Skipped, TooLong}
-use Rattle.pc_trace.proofs.Ends.{at_end, ended, outcome_at, ran_on, stops}
-use Rattle.pc_trace.proofs.Rests.{few_actors_at_start}
-use Rattle.pc_trace.specs.Traces.{AllTouches, RanOn, TooLongAt, TooManyAt, TouchAt, actor_limit}
-use Rattle.pc_trace.specs.declared.touch.Touch.{Touch}
+use Rattle.pc_trace.proofs.{Ends.{at_end, ended, outcome_at, ran_on, stops}, Rests.few_actors_at_start}
+use Rattle.pc_trace.specs.{Traces.{AllTouches, RanOn, TooLongAt, TooManyAt, TouchAt, actor_limit}, declared.touch.Touch.Touch}
 use Rattle.pc_refusal_lines.specs.Lines.{many_actors_line, too_long_line}
-use Rattle.pc_refusals.specs.Verdict.{Named, EndsWith, refused}
-use Rattle.pc_refusals.specs.Source.{source_limit}
+use Rattle.pc_refusals.specs.{Verdict.{Named, EndsWith, refused}, Source.source_limit}
 use Rattle.pc_run_events.specs.Lines.{trace_text}
-use Rattle.pc_core_commands.specs.Trace.{Tracing}
-use Rattle.pc_top.specs.Commands.Trace.{IsTrace}
-use Rattle.pc_core_commands.specs.Trace.Tracing.{tells, too_long, too_many}
-use Rattle.pc_top.specs.CoresFormed.{CoresAreFormed}
+use Rattle.pc_commands.specs.{Trace.Tracing, Trace.Tracing.{tells, too_long, too_many}}
+use Rattle.pc_top.specs.{Commands.Trace.IsTrace, CoresFormed.CoresAreFormed}
 use Rattle.pc_top.proofs.Deriving.{accepted_core_safe}
-use Rattle.pc_verdicts.proofs.Clocks.{clocks_are_there, event_at, event_below}
-use Rattle.pc_verdicts.proofs.Placing.{Listed, listed_more, listed_none, listed_rest}
-use Rattle.pc_verdicts.proofs.Shapes.{scheduled_answers}
-use Rattle.pc_verdicts.proofs.Stages.{Answers, HasEnd, ReadOn, ends_answer}
+use Rattle.pc_verdicts.proofs.{Clocks.{clocks_are_there, event_at, event_below}, Placing.{Listed, listed_more, listed_none, listed_rest}, Shapes.scheduled_answers, Stages.{Answers, HasEnd, ReadOn, ends_answer}}
 
 module _ (core : CoreData) (list : List ℕ) where
   -- ---- accesses

@@ -1,53 +1,24 @@
 -- A core has a valid annotation, or one of the faults that show that it has none.
-use Rattle.std.proofs.Common.{◌≡◌, ◌<◌, ◌≤◌, ◌+◌, ℕ, zero, suc, [], Bool, true, false, length, Option, Some, None, Ok, Err, inl, inr, refl, sym, ap, ◌∙◌, subst, arith}
+use Rattle.std.proofs.{Common.{◌≡◌, ◌<◌, ◌≤◌, ◌+◌, ℕ, zero, suc, [], Bool, true, false, length, Option, Some, None, Ok, Err, inl, inr, refl, sym, ap, ◌∙◌, subst, arith}, lemmas.Bool.false≢true, lemmas.List.length-map, lemmas.Option.none-some}
 use Rattle.std.specs.Prelude.{codes, slice_get}
-use Rattle.std.proofs.lemmas.Bool.{false≢true}
-use Rattle.std.proofs.lemmas.List.{length-map}
-use Rattle.std.proofs.lemmas.Option.{none-some}
-use Rattle.pc_ann.specs.declared.annotation.Ann.{Ann}
-use Rattle.pc_ann.specs.declared.annotation.Note.{Note}
-use Rattle.pc_check.proofs.Filling.{low_at, low_behind, low_next, tree_at}
-use Rattle.pc_check.proofs.Parents.{known}
-use Rattle.pc_check.proofs.Stopping.{leaves, stops}
-use Rattle.pc_check.proofs.Walking.{note_meets, noted, reaches_infer, walked_infer, walked_noted, walked_whole, with_notes}
-use Rattle.pc_check.specs.Faults.{InferenceLeavesUnset, StopsAt}
-use Rattle.pc_check.specs.Inference.{first_note, first_types, inferred_slot, leaves_unset, rules_for, with_inferred, written_type}
-use Rattle.pc_check.specs.Walked.{Walked}
-use Rattle.pc_core.specs.CoreData.{CoreData}
-use Rattle.pc_core.specs.Formed.{Formed}
-use Rattle.pc_core.specs.declared.declarations.Method.{Method}
-use Rattle.pc_core.specs.declared.nodes.Node.{Node}
-use Rattle.pc_core.specs.declared.nodes.NodeKind.{NodeKind}
+use Rattle.pc_ann.specs.{declared.annotation.Ann.Ann, declared.annotation.Note.Note}
+use Rattle.pc_check.proofs.{Filling.{low_at, low_behind, low_next, tree_at}, Parents.known, Stopping.{leaves, stops}, Walking.{note_meets, noted, reaches_infer, walked_infer, walked_noted, walked_whole, with_notes}}
+use Rattle.pc_check.specs.{Faults.{InferenceLeavesUnset, StopsAt}, Inference.{first_note, first_types, inferred_slot, leaves_unset, rules_for, with_inferred, written_type}, Walked.Walked}
+use Rattle.pc_core.specs.{CoreData.CoreData, Formed.Formed, declared.declarations.Method.Method, declared.nodes.Node.Node, declared.nodes.NodeKind.NodeKind, declared.nodes.Slot.Slot}
 use Rattle.pc_core.specs.declared.nodes.NodeKind.TheVariants as node
-use Rattle.pc_core.specs.declared.nodes.Slot.{Slot}
 use Rattle.pc_deriv.proofs.Reached.{all_app}
 use Rattle.pc_deriv.specs.Text.{NoteFits}
-use Rattle.pc_lists.proofs.Gets.{get_below, get_map, get_within}
-use Rattle.pc_lists.specs.Lists.{Text}
+use Rattle.pc_base.proofs.Gets.{get_below, get_map, get_within}
+use Rattle.pc_base.specs.Lists.{Text}
 use Rattle.pc_masks.specs.Masks.{first}
-use Rattle.pc_rules.proofs.Agreeing.{body_method}
-use Rattle.pc_rules.proofs.Homes.{children_of}
-use Rattle.pc_rules.specs.Control.{start_set}
-use Rattle.pc_valid.specs.Words.{Masks, masks_after, before}
-use Rattle.pc_rules.specs.Rules.{IsSaid}
-use Rattle.pc_rules.specs.Trees.{Forest, Tree, body_tree, tree_le}
-use Rattle.pc_valid.specs.Valid.{Valid}
-use Rattle.pc_rules.specs.Checks.{StartsFrom, is_else}
-use Rattle.pc_rules.specs.Checks.StartsFrom.{body, else_branch, first_child, next_child}
-use Rattle.pc_sub.specs.Declarations.{DeclOk}
-use Rattle.pc_sub.specs.DeclarationFaults.{first_fault}
-use Rattle.pc_sub.specs.Faults.{none_iff_fits}
-use Rattle.pc_sub.specs.FirstFault.{IsFirstDeclarationFault}
+use Rattle.pc_rules.proofs.{Agreeing.body_method, Homes.children_of}
+use Rattle.pc_rules.specs.{Control.start_set, Rules.IsSaid, Trees.{Forest, Tree, body_tree, tree_le}, Checks.{StartsFrom, is_else}, Checks.StartsFrom.{body, else_branch, first_child, next_child}}
+use Rattle.pc_valid.specs.{Words.{Masks, masks_after, before}, Valid.Valid}
+use Rattle.pc_sub.specs.{Declarations.DeclOk, DeclarationFaults.first_fault, Faults.none_iff_fits, FirstFault.IsFirstDeclarationFault, declared.faults.DeclFault.DeclFault}
 use Rattle.pc_sub.proofs.FirstFaults.{first_is}
-use Rattle.pc_sub.specs.declared.faults.DeclFault.{DeclFault}
-use Rattle.pc_refusals.specs.Source.{Typing}
-use Rattle.pc_refusals.specs.Source.Typing.{declared, no_rule, typed, unset}
-use Rattle.pc_refusals.specs.FaultLines.{decl_offset, decl_text}
+use Rattle.pc_refusals.specs.{Source.Typing, Source.Typing.{declared, no_rule, typed, unset}, FaultLines.{decl_offset, decl_text}, Verdict.refused, declared.source.Source.Source}
 use Rattle.pc_refusal_lines.specs.Lines.{offset_line}
-use Rattle.pc_refusals.specs.Verdict.{refused}
-use Rattle.pc_refusals.specs.declared.source.Source.{Source}
-use Rattle.pc_verdicts.proofs.Fitting.{BothFit, NotesFit, SlotsAreSmall, first_slots, inferred_slots, noted_fits, reaches_fit}
-use Rattle.pc_verdicts.proofs.Stages.{HasEnd}
+use Rattle.pc_verdicts.proofs.{Fitting.{BothFit, NotesFit, SlotsAreSmall, first_slots, inferred_slots, noted_fits, reaches_fit}, Stages.HasEnd}
 
 -- What the checker finds.
 pub data Checked (core : CoreData) : Type 0 where

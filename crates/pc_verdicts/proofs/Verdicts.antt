@@ -3,28 +3,15 @@ use Rattle.std.proofs.Common.{Option, Some, None, refl, arith}
 use Rattle.pc_args.specs.Asked.{Asked, check, events, explain, judge, make, outcomes, places, play, run, schedule_of, sends, show, swap, trace, upgrade, command_of}
 use Rattle.pc_deriv.specs.Text.{derivation_limit, deriv_text}
 use Rattle.pc_deriv.specs.declared.version.Version.TheVariants as version
-use Rattle.pc_lists.specs.Lists.{Text}
+use Rattle.pc_base.specs.Lists.{Text}
 use Rattle.pc_regions.specs.Laws.{ValidIsSafe}
 use Rattle.pc_sched.specs.Schedules.{schedule_limit}
 use Rattle.pc_types.specs.Laws.{AcceptedNeverLacks}
-use Rattle.pc_refusals.specs.Derivation.{in_parts}
+use Rattle.pc_refusals.specs.{Derivation.in_parts, Verdict.{Named, named, refused}, Source.source_limit}
 use Rattle.pc_refusal_lines.specs.Lines.{usage_line}
-use Rattle.pc_refusals.specs.Verdict.{Named, named, refused}
-use Rattle.pc_refusals.specs.Source.{source_limit}
-use Rattle.pc_top.specs.Commands.{IsVerdictOf}
-use Rattle.pc_core_commands.specs.Judge.{accepted_text}
-use Rattle.pc_top.specs.One.{TellsOf}
-use Rattle.pc_top.specs.CoresFormed.{CoresAreFormed}
-use Rattle.pc_verdicts.proofs.Derived.{check_answers}
-use Rattle.pc_verdicts.proofs.Recounting.{events_answers}
-use Rattle.pc_verdicts.proofs.Running.{make_answers, play_answers, run_answers, schedule_answers}
-use Rattle.pc_verdicts.proofs.Sending.{sends_answers}
-use Rattle.pc_verdicts.proofs.Shapes.{derivation_answers}
-use Rattle.pc_verdicts.proofs.Sources.{explain_answers, places_answers, show_answers}
-use Rattle.pc_verdicts.proofs.Stages.{Answers, ReadOn, far_on}
-use Rattle.pc_verdicts.proofs.Swapping.{swap_answers}
-use Rattle.pc_verdicts.proofs.Tabled.{outcomes_answers}
-use Rattle.pc_verdicts.proofs.Tracing.{trace_answers}
+use Rattle.pc_top.specs.{Commands.IsVerdictOf, One.TellsOf, CoresFormed.CoresAreFormed}
+use Rattle.pc_commands.specs.Judge.{accepted_text}
+use Rattle.pc_verdicts.proofs.{Derived.check_answers, Recounting.events_answers, Running.{make_answers, play_answers, run_answers, schedule_answers}, Sending.sends_answers, Shapes.derivation_answers, Sources.{explain_answers, places_answers, show_answers}, Stages.{Answers, ReadOn, far_on}, Swapping.swap_answers, Tabled.outcomes_answers, Tracing.trace_answers}
 use Rattle.pc_verdicts.specs.There.{ThereIsAVerdict, read_through}
 
 module _ (law : CoresAreFormed) (never : AcceptedNeverLacks) (safe : ValidIsSafe) (known : Text → Option Text) where

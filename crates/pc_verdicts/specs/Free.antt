@@ -1,11 +1,10 @@
 -- Running out of memory is the only answer that is always allowed.
-use Rattle.std.specs.Prelude.{ℕ, ◌≡◌, ◌⊎◌, List}
-use Rattle.std.specs.Io.KnownBytes.{Appends}
+use Rattle.std.specs.{Prelude.{ℕ, ◌≡◌, ◌⊎◌, List}, Io.KnownBytes.Appends}
 use Rattle.pc_args.specs.Asked.{command_of}
 use Rattle.pc_io.specs.Sink.{Change, HasRisen}
-use Rattle.pc_lists.specs.Lists.{Text}
+use Rattle.pc_base.specs.Lists.{Text}
 use Rattle.pc_refusals.specs.Verdict.{Completes, Files, Verdict}
-use Rattle.pc_top.specs.{Asked.FailedIn, Asked.IsVerdict, One.TellsOf, One.UnfailedOf}
+use Rattle.pc_top.specs.{Asked.{FailedIn, IsVerdict}, One.{TellsOf, UnfailedOf}}
 use Rattle.pc_verdicts.specs.There.{read_through}
 
 -- The answer has this verdict's status, text and line.

@@ -2,7 +2,7 @@
 use Rattle.std.specs.Prelude.{◌+◌, List, Option}
 use Rattle.pc_args.specs.Asked.{command_of}
 use Rattle.pc_deriv.specs.Text.{derivation_limit}
-use Rattle.pc_lists.specs.Lists.{Text}
+use Rattle.pc_base.specs.Lists.{Text}
 use Rattle.pc_refusals.specs.Verdict.{Files, files_change, Verdict}
 use Rattle.pc_top.specs.{Asked.IsVerdict, One.TellsOf}
 

@@ -1,9 +1,8 @@
 -- How a command ended: with its text, or with what happened to out.
-use Rattle.std.specs.Prelude.{ℕ, ◌≡◌, ◌⊎◌, [], Result, Err, MatchResult}
-use Rattle.std.specs.Io.KnownBytes.{Appends, Keeps}
+use Rattle.std.specs.{Prelude.{ℕ, ◌≡◌, ◌⊎◌, [], Result, Err, MatchResult}, Io.KnownBytes.{Appends, Keeps}}
 use Rattle.pc_io.specs.Sink.{Change, HasRisen}
-use Rattle.pc_lists.specs.Lists.{Text}
-use Rattle.pc_refusals.specs.{Verdict.TellsPart, Verdict.Verdict, Verdict.done, Verdict.refused, Inner.Stages.StageWrote, declared.stop.Stop.Stop, declared.stop.Stop.TheVariants.Refused, declared.stop.Stop.TheVariants.File, declared.stop.Stop.TheVariants.Sink, declared.stop.Stop.TheVariants.Memory}
+use Rattle.pc_base.specs.Lists.{Text}
+use Rattle.pc_refusals.specs.{Verdict.{TellsPart, Verdict, done, refused}, Inner.Stages.StageWrote, declared.stop.Stop.Stop, declared.stop.Stop.TheVariants.{Refused, File, Sink, Memory}}
 
 -- ---- a command that returns a text
 

@@ -4,8 +4,8 @@ use Rattle.pc_ann.specs.declared.annotation.Ann.{Ann}
 use Rattle.pc_core.specs.CoreData.{CoreData}
 use Rattle.pc_deriv.specs.Text.{derivation_limit}
 use Rattle.pc_referee.specs.Asked.{Pairs}
-use Rattle.pc_lists.specs.Lists.{Text}
-use Rattle.pc_refusals.specs.{Derivation.DerivationStage, Derivation.Judging, Derivation.JudgedFile, Inner.Stages.PartGives, Inner.Stages.PartStops, Inner.Stages.StageStops, Verdict.Named, declared.source.Source.Source, declared.stop.Stop.Stop, declared.stop.Stop.TheVariants.Refused, declared.stop.Stop.TheVariants.File, declared.stop.Stop.TheVariants.Sink, declared.stop.Stop.TheVariants.Memory}
+use Rattle.pc_base.specs.Lists.{Text}
+use Rattle.pc_refusals.specs.{Derivation.{DerivationStage, Judging, JudgedFile}, Inner.Stages.{PartGives, PartStops, StageStops}, Verdict.Named, declared.source.Source.Source, declared.stop.Stop.Stop, declared.stop.Stop.TheVariants.{Refused, File, Sink, Memory}}
 
 -- Its stages gave a valid annotation, or they refused it, or the annotation is refused.
 abbrev pub DerivationJudged : Text → Source → Named → Result (Unit {0}) Stop → Type 0

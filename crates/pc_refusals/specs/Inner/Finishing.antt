@@ -1,10 +1,9 @@
 -- How writing the line of an ended command ended.
-use Rattle.std.specs.Prelude.{ℕ, ◌≡◌, ◌⊎◌, Result, MatchResult}
-use Rattle.std.specs.Io.KnownBytes.{Appends, Keeps}
+use Rattle.std.specs.{Prelude.{ℕ, ◌≡◌, ◌⊎◌, Result, MatchResult}, Io.KnownBytes.{Appends, Keeps}}
 use Rattle.pc_io.specs.Sink.{Change, HasRisen, GrowsByPrefix}
-use Rattle.pc_lists.specs.Lists.{Text}
+use Rattle.pc_base.specs.Lists.{Text}
 use Rattle.pc_refusal_lines.specs.Lines.{unread_line}
-use Rattle.pc_refusals.specs.{declared.stop.Stop.Stop, declared.stop.Stop.TheVariants.Refused, declared.stop.Stop.TheVariants.File, declared.stop.Stop.TheVariants.Sink, declared.stop.Stop.TheVariants.Memory}
+use Rattle.pc_refusals.specs.{declared.stop.Stop.Stop, declared.stop.Stop.TheVariants.{Refused, File, Sink, Memory}}
 
 -- How the writing of a line ended.
 abbrev pub LineEnds : Change → (status wanted : ℕ) → Text → Type 0

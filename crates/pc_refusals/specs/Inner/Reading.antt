@@ -1,9 +1,9 @@
 -- The result of reading a file inside a command.
 use Rattle.std.specs.Prelude.{ℕ, ◌≡◌, ◌<◌, List, Option, Result, MatchResult}
 use Rattle.pc_io.specs.declared.bytes.Bytes.{Bytes}
-use Rattle.pc_lists.specs.Lists.{Text}
+use Rattle.pc_base.specs.Lists.{Text}
 use Rattle.pc_refusal_lines.specs.Lines.{longer_line}
-use Rattle.pc_refusals.specs.{Verdict.IsReading, Verdict.whole, Verdict.longer, declared.stop.Stop.Stop, declared.stop.Stop.TheVariants.Refused, declared.stop.Stop.TheVariants.File, declared.stop.Stop.TheVariants.Sink, declared.stop.Stop.TheVariants.Memory}
+use Rattle.pc_refusals.specs.{Verdict.{IsReading, whole, longer}, declared.stop.Stop.Stop, declared.stop.Stop.TheVariants.{Refused, File, Sink, Memory}}
 
 -- Why no bytes were read: the file is longer, or its name's faults rose, or memory ran out.
 abbrev pub NotRead : Text → (limit : ℕ) → Option (List ℕ) → (before now taken : ℕ) → Stop → Type 0

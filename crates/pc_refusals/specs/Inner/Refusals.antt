@@ -5,8 +5,8 @@ use Rattle.pc_deriv.specs.{Laws.as_read, Text.derivation_limit, declared.fault.D
 use Rattle.pc_feed.specs.declared.parts.DerivationFault.{DerivationFault}
 use Rattle.pc_lex.specs.declared.fault.LexFault.{LexFault}
 use Rattle.pc_names.specs.declared.fault.NameFault.{NameFault}
-use Rattle.pc_lists.specs.Lists.{Text}
-use Rattle.pc_refusals.specs.{FaultLines.decl_offset, FaultLines.decl_text, Parts.method_start, Parts.node_start, FaultLines.fault_line, FaultLines.fault_status, FaultLines.name_line, FaultLines.name_status, Derivation.judge_line, Derivation.text_line, Derivation.text_status, declared.source.Source.Source, declared.stop.Stop.Stop}
+use Rattle.pc_base.specs.Lists.{Text}
+use Rattle.pc_refusals.specs.{FaultLines.{decl_offset, decl_text, fault_line, fault_status, name_line, name_status}, Parts.{method_start, node_start}, Derivation.{judge_line, text_line, text_status}, declared.source.Source.Source, declared.stop.Stop.Stop}
 use Rattle.pc_refusal_lines.specs.Lines.{longer_line, offset_line}
 use Rattle.pc_check.specs.declared.fault.CheckFault.TheVariants as check
 use Rattle.pc_deriv.specs.declared.fault.DerivFault.TheVariants as deriv

@@ -1,9 +1,8 @@
 -- The results of the parts of a command.
-use Rattle.std.specs.Prelude.{ℕ, Result, Ok, Err, MatchResult}
-use Rattle.std.specs.Io.KnownBytes.{Appends, Keeps}
+use Rattle.std.specs.{Prelude.{ℕ, Result, Ok, Err, MatchResult}, Io.KnownBytes.{Appends, Keeps}}
 use Rattle.pc_io.specs.Sink.{HasRisen, GrowsByPrefix, Change}
-use Rattle.pc_lists.specs.Lists.{Text}
-use Rattle.pc_refusals.specs.{Verdict.Reading, Verdict.Named, Verdict.IsReadingOf, Verdict.FailedAt, Verdict.Verdict, Verdict.refused, declared.stop.Stop.Stop, declared.stop.Stop.TheVariants.Refused, declared.stop.Stop.TheVariants.File, declared.stop.Stop.TheVariants.Sink, declared.stop.Stop.TheVariants.Memory}
+use Rattle.pc_base.specs.Lists.{Text}
+use Rattle.pc_refusals.specs.{Verdict.{Reading, Named, IsReadingOf, FailedAt, Verdict, refused}, declared.stop.Stop.Stop, declared.stop.Stop.TheVariants.{Refused, File, Sink, Memory}}
 
 -- Why a part that reads one file and goes through its stages gave no value: a stage refused, the file's faults rose, or
 -- memory ran out.

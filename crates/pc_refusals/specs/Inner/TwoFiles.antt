@@ -1,6 +1,6 @@
 -- How reading two files ended, one after another, each through its stages.
 use Rattle.std.specs.Prelude.{ℕ, ◌⊎◌, Result}
-use Rattle.pc_refusals.specs.{Inner.Stages.PartGives, Inner.Stages.PartStops, Verdict.Named, Verdict.Reading, Verdict.Verdict, declared.stop.Stop.Stop}
+use Rattle.pc_refusals.specs.{Inner.Stages.{PartGives, PartStops}, Verdict.{Named, Reading, Verdict}, declared.stop.Stop.Stop}
 
 -- They gave these values.
 abbrev pub BothGive : {T U : Type 0} → (first second : ℕ) → (Reading → Result T Verdict → Type 0) → (Reading → Result U Verdict → Type 0) → Named → Named → T → U → Type 0

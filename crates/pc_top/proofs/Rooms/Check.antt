@@ -1,17 +1,13 @@
 -- The room of `check`.
 use Rattle.std.proofs.Common.{◌≡◌, inl, refl, sym, ap, subst, ◌∙◌}
 use Rattle.std.specs.Io.KnownBytes.{Appends}
-use Rattle.pc_lists.specs.Lists.{Text}
+use Rattle.pc_base.specs.Lists.{Text}
 use Rattle.pc_args.specs.Asked.{check}
-use Rattle.pc_deriv.specs.Text.{deriv_text}
-use Rattle.pc_deriv.specs.declared.version.Version.{Version}
-use Rattle.pc_refusals.specs.Verdict.{Files, named, Verdict, done}
-use Rattle.pc_refusals.specs.declared.typing.Accepted.{Accepted}
+use Rattle.pc_deriv.specs.{Text.deriv_text, declared.version.Version.Version}
+use Rattle.pc_refusals.specs.{Verdict.{Files, named, Verdict, done}, declared.typing.Accepted.Accepted}
 use Rattle.pc_refusals.proofs.Statuses.{IsLate}
 use Rattle.pc_top.specs.Commands.Check.{Derived, WritesDerivation}
-use Rattle.pc_top.proofs.Begins.{begins}
-use Rattle.pc_top.proofs.Room.{Room, inferring}
-use Rattle.pc_top.proofs.Shapes.{accepted_one, accepted_says}
+use Rattle.pc_top.proofs.{Begins.begins, Room.{Room, inferring}, Shapes.{accepted_one, accepted_says}}
 
 derived_late : (a : Accepted) (v : Verdict) → Derived a v → IsLate v.status
 derived_late a v d = inl (ap (λ (w : Verdict). w.status) d.3)

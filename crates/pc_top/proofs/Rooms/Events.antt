@@ -1,26 +1,18 @@
 -- The room of `events`.
 use Rattle.std.proofs.Common.{◌≡◌, ◌⊎◌, ℕ, List, [], Ok, Err, inl, inr, refl, subst}
-use Rattle.std.specs.Prelude.{IfSome}
-use Rattle.std.specs.Io.KnownBytes.{Appends}
-use Rattle.pc_lists.specs.Lists.{Text}
+use Rattle.std.specs.{Prelude.IfSome, Io.KnownBytes.Appends}
+use Rattle.pc_base.specs.Lists.{Text}
 use Rattle.pc_args.specs.Asked.{events}
 use Rattle.pc_core.specs.CoreData.{CoreData}
 use Rattle.pc_io.specs.Sink.{Change}
 use Rattle.pc_run.specs.Spreading.{spread}
-use Rattle.pc_run_events.specs.Lines.{events_text_of_run}
-use Rattle.pc_run_events.specs.declared.events.RunEvent.{RunEvent}
+use Rattle.pc_run_events.specs.{Lines.events_text_of_run, declared.events.RunEvent.RunEvent}
 use Rattle.pc_refusals.specs.Verdict.{Files, Named, named, EndsWith, Verdict, IsAccepting, done}
-use Rattle.pc_refusals.proofs.LastStages.{ends_cases, ends_one, ends_status}
-use Rattle.pc_refusals.proofs.Statuses.{IsLate}
-use Rattle.pc_core_commands.specs.Events.{EventsTelling, AreEventsOfRun}
-use Rattle.pc_top.specs.Commands.Events.{IsEvents, WritesEvents}
-use Rattle.pc_top.specs.Shapes.{LastOfTurns, OfTurns}
-use Rattle.pc_top.proofs.Accepted.{both_by}
-use Rattle.pc_top.proofs.Begins.{begins}
-use Rattle.pc_top.proofs.Room.{Room, inferring}
-use Rattle.pc_core_commands.proofs.EventsTold.{events_cut, events_say, telling_late}
-use Rattle.pc_core_commands.proofs.OneEvents.{one_telling}
-use Rattle.pc_top.proofs.Shapes.{scheduled_one, scheduled_says, turns_late}
+use Rattle.pc_refusals.proofs.{LastStages.{ends_cases, ends_one, ends_status}, Statuses.IsLate}
+use Rattle.pc_commands.specs.Events.{EventsTelling, AreEventsOfRun}
+use Rattle.pc_top.specs.{Commands.Events.{IsEvents, WritesEvents}, Shapes.{LastOfTurns, OfTurns}}
+use Rattle.pc_top.proofs.{Accepted.both_by, Begins.begins, Room.{Room, inferring}, Shapes.{scheduled_one, scheduled_says, turns_late}}
+use Rattle.pc_commands.proofs.{EventsTold.{events_cut, events_say, telling_late}, OneEvents.one_telling}
 
 abbrev Last : LastOfTurns
 Last name core list = EndsWith (EventsTelling name core list)

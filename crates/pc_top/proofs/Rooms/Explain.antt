@@ -1,24 +1,16 @@
 -- The room of `explain`, whose source need not have a derivation.
 use Rattle.std.proofs.Common.{◌≡◌, ℕ, Ok, Err, refl, sym, ap, subst, ◌∙◌}
-use Rattle.std.specs.Prelude.{IfSome, Result}
-use Rattle.std.specs.Io.KnownBytes.{Appends}
-use Rattle.pc_lists.specs.Lists.{Text}
+use Rattle.std.specs.{Prelude.{IfSome, Result}, Io.KnownBytes.Appends}
+use Rattle.pc_base.specs.Lists.{Text}
 use Rattle.pc_args.specs.Asked.{explain, make}
 use Rattle.pc_io.specs.Sink.{Change}
 use Rattle.pc_tree.specs.Tree as t
-use Rattle.pc_refusals.specs.Verdict.{Files, IsReadingOf, Named, Reading, named, whole, IsAccepting, Verdict}
-use Rattle.pc_refusals.specs.Source.{FileStage, source_limit}
-use Rattle.pc_refusals.proofs.LastStages.{from_status, passed}
-use Rattle.pc_refusals.proofs.OneSource.{one_from}
-use Rattle.pc_refusals.proofs.Statuses.{IsOther, IsOwn, file_other, other_not_one, other_own, other_refuses}
-use Rattle.pc_core_commands.specs.Explain.{Explaining}
-use Rattle.pc_top.specs.Commands.Explain.{Explained, ExplainedStage, IsExplain, WritesExplained}
-use Rattle.pc_top.specs.Commands.Explain.ExplainedStage.{has_none, has_tree}
-use Rattle.pc_core_commands.proofs.Explained.{IsOtherEnd, explaining_other}
-use Rattle.pc_top.proofs.Accepted.{of_told}
-use Rattle.pc_top.proofs.Deriving.{file_says}
-use Rattle.pc_top.proofs.Room.{NotOne, Room, looks_for_none, zero_not_one, zero_own}
-use Rattle.pc_top.proofs.Rooms.Explain.One.{one_explained}
+use Rattle.pc_refusals.specs.{Verdict.{Files, IsReadingOf, Named, Reading, named, whole, IsAccepting, Verdict}, Source.{FileStage, source_limit}}
+use Rattle.pc_refusals.proofs.{LastStages.{from_status, passed}, OneSource.one_from, Statuses.{IsOther, IsOwn, file_other, other_not_one, other_own, other_refuses}}
+use Rattle.pc_commands.specs.Explain.{Explaining}
+use Rattle.pc_top.specs.{Commands.Explain.{Explained, ExplainedStage, IsExplain, WritesExplained}, Commands.Explain.ExplainedStage.{has_none, has_tree}}
+use Rattle.pc_commands.proofs.Explained.{IsOtherEnd, explaining_other}
+use Rattle.pc_top.proofs.{Accepted.of_told, Deriving.file_says, Room.{NotOne, Room, looks_for_none, zero_not_one, zero_own}, Rooms.Explain.One.one_explained}
 pub mod Ends
 pub mod One
 

@@ -1,28 +1,15 @@
 -- The room of `judge`, and what the referee was asked.
 use Rattle.std.proofs.Common.{◌≡◌, ℕ, Option, Ok, Err, refl, sym, subst, arith}
-use Rattle.std.specs.Prelude.{Result}
-use Rattle.std.specs.Io.KnownBytes.{Appends}
-use Rattle.pc_lists.specs.Lists.{Text}
+use Rattle.std.specs.{Prelude.Result, Io.KnownBytes.Appends}
+use Rattle.pc_base.specs.Lists.{Text}
 use Rattle.pc_args.specs.Asked.{judge}
 use Rattle.pc_referee.specs.Asked.{Pairs}
-use Rattle.pc_refusals.specs.Derivation.{in_parts, JudgedFile}
-use Rattle.pc_refusals.specs.Inner.Answering.{Puts}
-use Rattle.pc_refusals.specs.Inner.Derivations.{NotDone}
-use Rattle.pc_refusals.specs.Inner.Stages.{PartGives, PartStops, StageWrote}
-use Rattle.pc_refusals.specs.Verdict.{Files, Named, named, Verdict}
-use Rattle.pc_refusals.specs.Source.{SourceStage, source_limit}
-use Rattle.pc_refusals.specs.declared.source.Source.{Source}
-use Rattle.pc_refusals.specs.declared.stop.Stop.{Stop}
-use Rattle.pc_refusals.specs.declared.stop.Stop.TheVariants.{Refused, File, Sink, Memory}
+use Rattle.pc_refusals.specs.{Derivation.{in_parts, JudgedFile}, Inner.Answering.Puts, Inner.Derivations.NotDone, Inner.Stages.{PartGives, PartStops, StageWrote}, Verdict.{Files, Named, named, Verdict}, Source.{SourceStage, source_limit}, declared.source.Source.Source, declared.stop.Stop.Stop, declared.stop.Stop.TheVariants.{Refused, File, Sink, Memory}}
 use Rattle.pc_refusals.proofs.Statuses.{IsOther, source_other}
 use Rattle.pc_io.specs.Sink.{Change}
-use Rattle.pc_core_commands.specs.Judge.{accepted_text}
-use Rattle.pc_top.specs.Inner.Asking.{JudgeAsks}
-use Rattle.pc_top.specs.Referee.{JudgedAll}
-use Rattle.pc_top.proofs.Accepted.{source_whole}
-use Rattle.pc_top.proofs.Deriving.{source_says}
-use Rattle.pc_top.proofs.DerivingRoom.{derivation_room}
-use Rattle.pc_top.proofs.Room.{Room}
+use Rattle.pc_commands.specs.Judge.{accepted_text}
+use Rattle.pc_top.specs.{Inner.Asking.JudgeAsks, Referee.JudgedAll}
+use Rattle.pc_top.proofs.{Accepted.source_whole, Deriving.source_says, DerivingRoom.derivation_room, Room.Room}
 
 pub judge_room : (files : Files) (source derivation : Text) → Room files (judge source derivation)
 judge_room files source derivation =

@@ -1,30 +1,20 @@
 -- The room of `make`.
-use Rattle.std.proofs.Common.{◌≡◌, ◌<◌, ℕ, ◌++◌, length, refl, sym, ap, ap₂, subst, ◌∙◌, arith}
+use Rattle.std.proofs.{Common.{◌≡◌, ◌<◌, ℕ, ◌++◌, length, refl, sym, ap, ap₂, subst, ◌∙◌, arith}, lemmas.Option.none-some}
 use Rattle.std.specs.Io.KnownBytes.{Appends}
-use Rattle.std.proofs.lemmas.Option.{none-some}
-use Rattle.pc_lists.specs.Lists.{Text}
-use Rattle.pc_args.specs.Asked.{make}
+use Rattle.pc_base.specs.Lists.{Text}
+use Rattle.pc_args.specs.{Asked.make, Line.{IsSeed, IsSize}}
 use Rattle.pc_core.specs.CoreData.{CoreData}
-use Rattle.pc_args.specs.Line.{IsSeed, IsSize}
 use Rattle.pc_gen.specs.Generated.{generated_text, schedule}
 use Rattle.pc_io.specs.Sink.{Change}
 use Rattle.pc_run.specs.Spreading.{spread}
 use Rattle.pc_semantics.specs.Text.{run_text}
 use Rattle.pc_refusal_lines.specs.Lines.{counts_line}
-use Rattle.pc_refusals.specs.Verdict.{FailedAt, Files, text_as, Verdict, IsAccepting, headed}
-use Rattle.pc_refusals.specs.declared.typing.Accepted.{Accepted}
-use Rattle.pc_refusals.proofs.OneSource.{SourceLaws}
-use Rattle.pc_refusals.proofs.Statuses.{IsLate, IsOwn}
-use Rattle.pc_top.specs.Asked.{OfMade}
-use Rattle.pc_core_commands.specs.Make.{made_line, made_name}
-use Rattle.pc_top.specs.Commands.Make.{IsMade, IsMake, MadeRun, WritesMade}
-use Rattle.pc_top.specs.Commands.Make.IsMake.{made, no_numbers}
-use Rattle.pc_top.specs.CoreOf.{CoreOf, IsDerivable, IsUnderivable}
-use Rattle.pc_top.proofs.Begins.{Begins, begins, begins_accepts, begins_exact, begins_own, begins_refuses}
-use Rattle.pc_top.proofs.Premises.{Laws, Refusing}
-use Rattle.pc_top.proofs.Room.{Room, two_not_one, two_own, two_refuses}
-use Rattle.pc_core_commands.proofs.Ran.{one_ran, ran_late, ran_says}
-use Rattle.pc_top.proofs.Shapes.{accepted_one, accepted_says}
+use Rattle.pc_refusals.specs.{Verdict.{FailedAt, Files, text_as, Verdict, IsAccepting, headed}, declared.typing.Accepted.Accepted}
+use Rattle.pc_refusals.proofs.{OneSource.SourceLaws, Statuses.{IsLate, IsOwn}}
+use Rattle.pc_top.specs.{Asked.OfMade, Commands.Make.{IsMade, IsMake, MadeRun, WritesMade}, Commands.Make.IsMake.{made, no_numbers}, CoreOf.{CoreOf, IsDerivable, IsUnderivable}}
+use Rattle.pc_commands.specs.Make.{made_line, made_name}
+use Rattle.pc_top.proofs.{Begins.{Begins, begins, begins_accepts, begins_exact, begins_own, begins_refuses}, Premises.{Laws, Refusing}, Room.{Room, two_not_one, two_own, two_refuses}, Shapes.{accepted_one, accepted_says}}
+use Rattle.pc_commands.proofs.Ran.{one_ran, ran_late, ran_says}
 
 -- a text that is in no file is read without a failure
 pub never_failed : (name text n : Text) → FailedAt (text_as name text) n → ⊥

@@ -2,19 +2,14 @@
 use Rattle.std.proofs.Common.{◌≡◌, ℕ, inl, inr, refl, subst}
 use Rattle.std.specs.Io.KnownBytes.{Appends}
 use Rattle.pc_args.specs.Asked.{outcomes}
-use Rattle.pc_lists.specs.Lists.{Text}
+use Rattle.pc_base.specs.Lists.{Text}
 use Rattle.pc_outcomes.specs.Texts.{outcomes_text}
-use Rattle.pc_refusals.specs.Verdict.{Files, named, Verdict}
-use Rattle.pc_refusals.specs.declared.typing.Accepted.{Accepted}
-use Rattle.pc_refusals.proofs.LastStages.{ends_cases, ends_one, ends_status}
-use Rattle.pc_refusals.proofs.Statuses.{IsLate}
-use Rattle.pc_core_commands.specs.Outcomes.{IsCount, OutcomesTelling}
+use Rattle.pc_refusals.specs.{Verdict.{Files, named, Verdict}, declared.typing.Accepted.Accepted}
+use Rattle.pc_refusals.proofs.{LastStages.{ends_cases, ends_one, ends_status}, Statuses.IsLate}
+use Rattle.pc_commands.specs.Outcomes.{IsCount, OutcomesTelling}
 use Rattle.pc_top.specs.Commands.Outcomes.{Tabled, WritesOutcomes}
-use Rattle.pc_core_commands.proofs.OneOutcome.{one_count, one_telling, refusal_other, table_by}
-use Rattle.pc_top.proofs.NumberRoom.{numbered}
-use Rattle.pc_top.proofs.Premises.{Laws}
-use Rattle.pc_top.proofs.Room.{Room}
-use Rattle.pc_top.proofs.Shapes.{accepted_says}
+use Rattle.pc_commands.proofs.OneOutcome.{one_count, one_telling, refusal_other, table_by}
+use Rattle.pc_top.proofs.{NumberRoom.numbered, Premises.Laws, Room.Room, Shapes.accepted_says}
 
 tabled_late : (name : Text) (n : ℕ) (a : Accepted) (v : Verdict) → Tabled name n a v → IsLate v.status
 tabled_late name n a = ends_status (λ text. text) (OutcomesTelling name a.source.core n) IsLate (inl refl) (λ w h. inr (inl (refusal_other h)))

@@ -1,24 +1,16 @@
 -- The room of `places`, whose source need not have a derivation.
 use Rattle.std.proofs.Common.{◌≡◌, ◌≤◌, ℕ, List, length, Ok, refl, sym, ap, subst, ◌∙◌}
-use Rattle.std.specs.Prelude.{IfSome}
-use Rattle.std.specs.Io.KnownBytes.{Appends}
-use Rattle.pc_lists.specs.Lists.{Text}
+use Rattle.std.specs.{Prelude.IfSome, Io.KnownBytes.Appends}
+use Rattle.pc_base.specs.Lists.{Text}
 use Rattle.pc_args.specs.Asked.{make, places}
 use Rattle.pc_io.specs.Sink.{Change}
-use Rattle.pc_lex.specs.Laws.{OneList}
-use Rattle.pc_lex.specs.Pieces.{bytes_limit}
+use Rattle.pc_lex.specs.{Laws.OneList, Pieces.bytes_limit}
 use Rattle.pc_places.specs.Text.{HasTokens, IsPlacesText, places_text}
 use Rattle.pc_token.specs.declared.kinds.Token.{Token}
-use Rattle.pc_refusals.specs.Verdict.{Files, Named, Reading, named, Verdict, IsAccepting, done}
-use Rattle.pc_refusals.specs.Source.{SourceStage, source_limit}
-use Rattle.pc_refusals.specs.declared.source.Source.{Source}
-use Rattle.pc_refusals.proofs.LastStages.{from_status, passed}
-use Rattle.pc_refusals.proofs.OneSource.{one_from, one_source}
-use Rattle.pc_refusals.proofs.Statuses.{IsOther, IsOwn, other_not_one, other_own, other_refuses, source_other}
+use Rattle.pc_refusals.specs.{Verdict.{Files, Named, Reading, named, Verdict, IsAccepting, done}, Source.{SourceStage, source_limit}, declared.source.Source.Source}
+use Rattle.pc_refusals.proofs.{LastStages.{from_status, passed}, OneSource.{one_from, one_source}, Statuses.{IsOther, IsOwn, other_not_one, other_own, other_refuses, source_other}}
 use Rattle.pc_top.specs.Commands.Places.{IsPlaces, Placed, WritesPlaces}
-use Rattle.pc_top.proofs.Accepted.{of_source}
-use Rattle.pc_top.proofs.Deriving.{source_says}
-use Rattle.pc_top.proofs.Room.{NotOne, Room, looks_for_none, zero_not_one, zero_own}
+use Rattle.pc_top.proofs.{Accepted.of_source, Deriving.source_says, Room.{NotOne, Room, looks_for_none, zero_not_one, zero_own}}
 
 -- ---- the source that was read
 

@@ -1,21 +1,14 @@
 -- The room of `play`.
 use Rattle.std.proofs.Common.{◌≡◌, ℕ, refl, subst}
 use Rattle.std.specs.Io.KnownBytes.{Appends}
-use Rattle.pc_args.specs.Asked.{play}
-use Rattle.pc_args.specs.Line.{IsSeed}
-use Rattle.pc_lists.specs.Lists.{Text}
+use Rattle.pc_args.specs.{Asked.play, Line.IsSeed}
+use Rattle.pc_base.specs.Lists.{Text}
 use Rattle.pc_semantics.specs.Text.{run_text}
-use Rattle.pc_refusals.specs.Verdict.{Files, named, Verdict}
-use Rattle.pc_refusals.specs.declared.typing.Accepted.{Accepted}
+use Rattle.pc_refusals.specs.{Verdict.{Files, named, Verdict}, declared.typing.Accepted.Accepted}
 use Rattle.pc_refusals.proofs.Statuses.{IsLate}
-use Rattle.pc_core_commands.proofs.Chosen.{chosen_late, one_chosen}
+use Rattle.pc_commands.proofs.{Chosen.{chosen_late, one_chosen}, Ran.ran_says}
 use Rattle.pc_top.specs.Commands.Play.{Played, WritesPlay}
-use Rattle.pc_top.proofs.NumberRoom.{numbered}
-use Rattle.pc_top.proofs.Premises.{Laws}
-use Rattle.pc_top.proofs.Room.{Room}
-use Rattle.pc_core_commands.proofs.Ran.{ran_says}
-use Rattle.pc_top.proofs.Rooms.Schedule.{one_seed}
-use Rattle.pc_top.proofs.Shapes.{accepted_says}
+use Rattle.pc_top.proofs.{NumberRoom.numbered, Premises.Laws, Room.Room, Rooms.Schedule.one_seed, Shapes.accepted_says}
 pub mod AsRun
 
 played_late : (name : Text) (n : ℕ) (a : Accepted) (v : Verdict) → Played name n a v → IsLate v.status

@@ -1,18 +1,15 @@
 -- The room of `run`.
 use Rattle.std.proofs.Common.{inl, refl, subst}
 use Rattle.std.specs.Io.KnownBytes.{Appends}
-use Rattle.pc_lists.specs.Lists.{Text}
+use Rattle.pc_base.specs.Lists.{Text}
 use Rattle.pc_args.specs.Asked.{run}
 use Rattle.pc_run.specs.Spreading.{spread}
 use Rattle.pc_semantics.specs.Text.{run_text}
 use Rattle.pc_refusals.specs.Verdict.{Files, named}
-use Rattle.pc_core_commands.proofs.Ran.{one_ran, ran_late, ran_says}
-use Rattle.pc_core_commands.specs.Run.{Ran}
-use Rattle.pc_top.specs.Commands.Run.{WritesRun}
-use Rattle.pc_top.specs.Shapes.{OfTurns}
-use Rattle.pc_top.proofs.Begins.{begins}
-use Rattle.pc_top.proofs.Room.{Room, inferring}
-use Rattle.pc_top.proofs.Shapes.{scheduled_one, scheduled_says, turns_late}
+use Rattle.pc_commands.proofs.Ran.{one_ran, ran_late, ran_says}
+use Rattle.pc_commands.specs.Run.{Ran}
+use Rattle.pc_top.specs.{Commands.Run.WritesRun, Shapes.OfTurns}
+use Rattle.pc_top.proofs.{Begins.begins, Room.{Room, inferring}, Shapes.{scheduled_one, scheduled_says, turns_late}}
 
 pub run_room : (files : Files) (source schedule : Text) → Room files (run source schedule)
 run_room files source schedule =

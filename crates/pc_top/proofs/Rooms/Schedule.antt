@@ -1,18 +1,13 @@
 -- The room of `schedule`.
 use Rattle.std.proofs.Common.{◌≡◌, ℕ, inl, refl, sym, ap, subst, ◌∙◌}
 use Rattle.std.specs.Io.KnownBytes.{Appends}
-use Rattle.pc_args.specs.Asked.{schedule_of}
-use Rattle.pc_args.specs.Line.{IsSeed}
-use Rattle.pc_lists.specs.Lists.{Text}
-use Rattle.pc_refusals.specs.Verdict.{Files, named, Verdict, done}
-use Rattle.pc_refusals.specs.declared.typing.Accepted.{Accepted}
+use Rattle.pc_args.specs.{Asked.schedule_of, Line.IsSeed}
+use Rattle.pc_base.specs.Lists.{Text}
+use Rattle.pc_refusals.specs.{Verdict.{Files, named, Verdict, done}, declared.typing.Accepted.Accepted}
 use Rattle.pc_refusals.proofs.Statuses.{IsLate}
-use Rattle.pc_core_commands.proofs.Chosen.{one_line}
+use Rattle.pc_commands.proofs.Chosen.{one_line}
 use Rattle.pc_top.specs.Commands.Schedule.{Scheduled, WritesSchedule}
-use Rattle.pc_top.proofs.NumberRoom.{numbered}
-use Rattle.pc_top.proofs.Premises.{Laws}
-use Rattle.pc_top.proofs.Room.{Room}
-use Rattle.pc_top.proofs.Shapes.{accepted_says}
+use Rattle.pc_top.proofs.{NumberRoom.numbered, Premises.Laws, Room.Room, Shapes.accepted_says}
 
 -- the seed that a word spells
 pub one_seed : (word : Text) (n m : ℕ) → IsSeed word n → IsSeed word m → n ≡ m

@@ -1,17 +1,13 @@
 -- The room of `sends`.
 use Rattle.std.proofs.Common.{◌≡◌, List, ℕ, inl, refl, ap, subst, ◌∙◌}
 use Rattle.std.specs.Io.KnownBytes.{Appends}
-use Rattle.pc_lists.specs.Lists.{Text}
+use Rattle.pc_base.specs.Lists.{Text}
 use Rattle.pc_args.specs.Asked.{sends}
-use Rattle.pc_refusals.specs.Verdict.{Files, named, Verdict}
-use Rattle.pc_refusals.specs.declared.typing.Accepted.{Accepted}
+use Rattle.pc_refusals.specs.{Verdict.{Files, named, Verdict}, declared.typing.Accepted.Accepted}
 use Rattle.pc_refusals.proofs.Statuses.{IsLate}
-use Rattle.pc_core_commands.specs.Sends.{table_text}
+use Rattle.pc_commands.specs.Sends.{table_text}
 use Rattle.pc_top.specs.Commands.Sends.{Sent, WritesSends}
-use Rattle.pc_top.proofs.Begins.{begins}
-use Rattle.pc_top.proofs.Room.{Room, inferring}
-use Rattle.pc_top.proofs.Rooms.Sends.One.{one_sent}
-use Rattle.pc_top.proofs.Shapes.{accepted_one, accepted_says}
+use Rattle.pc_top.proofs.{Begins.begins, Room.{Room, inferring}, Rooms.Sends.One.one_sent, Shapes.{accepted_one, accepted_says}}
 pub mod One
 pub mod Tells
 

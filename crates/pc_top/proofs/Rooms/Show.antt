@@ -1,20 +1,14 @@
 -- The room of `show`, whose source need not have a derivation.
 use Rattle.std.proofs.Common.{◌≡◌, ℕ, refl, sym, ap, subst, ◌∙◌}
-use Rattle.std.specs.Prelude.{IfSome}
-use Rattle.std.specs.Io.KnownBytes.{Appends}
-use Rattle.pc_lists.specs.Lists.{Text}
+use Rattle.std.specs.{Prelude.IfSome, Io.KnownBytes.Appends}
+use Rattle.pc_base.specs.Lists.{Text}
 use Rattle.pc_args.specs.Asked.{make, show}
 use Rattle.pc_io.specs.Sink.{Change}
 use Rattle.pc_print.specs.Printing.{printed}
-use Rattle.pc_refusals.specs.Verdict.{Files, IsReadingOf, Named, Reading, named, whole, Verdict, IsAccepting}
-use Rattle.pc_refusals.specs.Source.{FileStage, source_limit}
-use Rattle.pc_refusals.proofs.LastStages.{from_status, passed}
-use Rattle.pc_refusals.proofs.OneSource.{one_file, one_from}
-use Rattle.pc_refusals.proofs.Statuses.{IsOther, IsOwn, file_other, other_not_one, other_own, other_refuses}
+use Rattle.pc_refusals.specs.{Verdict.{Files, IsReadingOf, Named, Reading, named, whole, Verdict, IsAccepting}, Source.{FileStage, source_limit}}
+use Rattle.pc_refusals.proofs.{LastStages.{from_status, passed}, OneSource.{one_file, one_from}, Statuses.{IsOther, IsOwn, file_other, other_not_one, other_own, other_refuses}}
 use Rattle.pc_top.specs.Commands.Show.{IsShow, Shown, WritesTree}
-use Rattle.pc_top.proofs.Accepted.{of_told}
-use Rattle.pc_top.proofs.Deriving.{file_says}
-use Rattle.pc_top.proofs.Room.{NotOne, Room, looks_for_none, zero_not_one, zero_own}
+use Rattle.pc_top.proofs.{Accepted.of_told, Deriving.file_says, Room.{NotOne, Room, looks_for_none, zero_not_one, zero_own}}
 
 -- Which statuses its verdicts have.
 statuses : (P : ℕ → Type 0) → ((status : ℕ) → IsOther status → P status) → P 0 → (file : Named) (v : Verdict) → IsShow file v → P v.status

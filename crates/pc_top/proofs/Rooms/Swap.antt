@@ -1,26 +1,17 @@
 -- The room of `swap`.
 use Rattle.std.proofs.Common.{◌≡◌, ◌⊎◌, ℕ, List, [], Ok, Err, inl, inr, refl, sym, ap, subst, ◌∙◌, arith}
-use Rattle.std.specs.Prelude.{IfSome, IsSome}
-use Rattle.std.specs.Io.KnownBytes.{Appends}
-use Rattle.pc_lists.specs.Lists.{Text}
+use Rattle.std.specs.{Prelude.{IfSome, IsSome}, Io.KnownBytes.Appends}
+use Rattle.pc_base.specs.Lists.{Text}
 use Rattle.pc_args.specs.Asked.{swap}
 use Rattle.pc_core.specs.CoreData.{CoreData}
 use Rattle.pc_io.specs.Sink.{Change}
 use Rattle.pc_run.specs.Spreading.{spread}
 use Rattle.pc_refusals.specs.Verdict.{Files, Named, named, EndsWith, Verdict, IsAccepting, done}
-use Rattle.pc_refusals.proofs.LastStages.{ends_cases, ends_one, ends_status}
-use Rattle.pc_refusals.proofs.Statuses.{IsLate}
-use Rattle.pc_core_commands.specs.Swap.{IsPlace, Neighbours, StandAt, SwapText, Swapping}
-use Rattle.pc_top.specs.Commands.Swap.{IsSwap, IsSwapAt, WritesSwap}
-use Rattle.pc_top.specs.Commands.Swap.IsSwap.{placed, no_number}
-use Rattle.pc_top.specs.Shapes.{LastOfTurns, OfTurns}
-use Rattle.pc_top.proofs.Accepted.{both_by}
-use Rattle.pc_top.proofs.Begins.{begins}
-use Rattle.pc_top.proofs.Premises.{Laws}
-use Rattle.pc_top.proofs.Room.{Goes, Room, inferring, two_refuses}
-use Rattle.pc_core_commands.proofs.OneSwap.{one_place, one_swapping}
-use Rattle.pc_core_commands.proofs.SwapTold.{swap_cut, swap_says, swapping_late}
-use Rattle.pc_top.proofs.Shapes.{scheduled_one, scheduled_says, turns_late}
+use Rattle.pc_refusals.proofs.{LastStages.{ends_cases, ends_one, ends_status}, Statuses.IsLate}
+use Rattle.pc_commands.specs.Swap.{IsPlace, Neighbours, StandAt, SwapText, Swapping}
+use Rattle.pc_top.specs.{Commands.Swap.{IsSwap, IsSwapAt, WritesSwap}, Commands.Swap.IsSwap.{placed, no_number}, Shapes.{LastOfTurns, OfTurns}}
+use Rattle.pc_top.proofs.{Accepted.both_by, Begins.begins, Premises.Laws, Room.{Goes, Room, inferring, two_refuses}, Shapes.{scheduled_one, scheduled_says, turns_late}}
+use Rattle.pc_commands.proofs.{OneSwap.{one_place, one_swapping}, SwapTold.{swap_cut, swap_says, swapping_late}}
 
 abbrev Last : ℕ → LastOfTurns
 Last place name core list = EndsWith (Swapping name core list place)

@@ -1,26 +1,19 @@
 -- The room of `trace`.
 use Rattle.std.proofs.Common.{◌≡◌, ◌⊎◌, ℕ, List, [], Ok, Err, inl, inr, refl, subst, arith}
-use Rattle.std.specs.Prelude.{IfSome}
-use Rattle.std.specs.Io.KnownBytes.{Appends}
-use Rattle.pc_lists.specs.Lists.{Text}
+use Rattle.std.specs.{Prelude.IfSome, Io.KnownBytes.Appends}
+use Rattle.pc_base.specs.Lists.{Text}
 use Rattle.pc_args.specs.Asked.{trace}
 use Rattle.pc_core.specs.CoreData.{CoreData}
 use Rattle.pc_io.specs.Sink.{Change}
 use Rattle.pc_run.specs.Spreading.{spread}
 use Rattle.pc_trace.specs.declared.touch.Touch.{Touch}
 use Rattle.pc_refusals.specs.Verdict.{Files, Named, named, EndsWith, Verdict, IsAccepting, done}
-use Rattle.pc_refusals.proofs.LastStages.{ends_cases, ends_one, ends_status}
-use Rattle.pc_refusals.proofs.Statuses.{IsLate}
+use Rattle.pc_refusals.proofs.{LastStages.{ends_cases, ends_one, ends_status}, Statuses.IsLate}
 use Rattle.pc_run_events.specs.Lines.{trace_text}
-use Rattle.pc_core_commands.specs.Trace.{Traced, Tracing}
-use Rattle.pc_top.specs.Commands.Trace.{IsTrace, WritesTrace}
-use Rattle.pc_top.specs.Shapes.{LastOfTurns, OfTurns}
-use Rattle.pc_top.proofs.Accepted.{both_by}
-use Rattle.pc_top.proofs.Begins.{begins}
-use Rattle.pc_top.proofs.Room.{Room, inferring}
-use Rattle.pc_core_commands.proofs.OneTrace.{one_tracing}
-use Rattle.pc_core_commands.proofs.TraceTold.{trace_cut, trace_says, tracing_late}
-use Rattle.pc_top.proofs.Shapes.{scheduled_one, scheduled_says, turns_late}
+use Rattle.pc_commands.specs.Trace.{Traced, Tracing}
+use Rattle.pc_top.specs.{Commands.Trace.{IsTrace, WritesTrace}, Shapes.{LastOfTurns, OfTurns}}
+use Rattle.pc_top.proofs.{Accepted.both_by, Begins.begins, Room.{Room, inferring}, Shapes.{scheduled_one, scheduled_says, turns_late}}
+use Rattle.pc_commands.proofs.{OneTrace.one_tracing, TraceTold.{trace_cut, trace_says, tracing_late}}
 
 abbrev Last : LastOfTurns
 Last name core list = EndsWith (Tracing name core list)

@@ -1,19 +1,14 @@
 -- The room of `upgrade`.
 use Rattle.std.proofs.Common.{refl, subst}
-use Rattle.std.specs.Prelude.{IfSome}
-use Rattle.std.specs.Io.KnownBytes.{Appends}
-use Rattle.pc_lists.specs.Lists.{Text}
+use Rattle.std.specs.{Prelude.IfSome, Io.KnownBytes.Appends}
+use Rattle.pc_base.specs.Lists.{Text}
 use Rattle.pc_args.specs.Asked.{upgrade}
 use Rattle.pc_deriv.specs.Text.{deriv_text}
 use Rattle.pc_deriv.specs.declared.version.Version.TheVariants as version
 use Rattle.pc_io.specs.Sink.{Change}
 use Rattle.pc_refusals.specs.Verdict.{Files, Named, named, Verdict}
 use Rattle.pc_top.specs.Commands.Upgrade.{WritesUpgraded}
-use Rattle.pc_top.proofs.Accepted.{of_source, of_told}
-use Rattle.pc_top.proofs.Deriving.{source_says}
-use Rattle.pc_top.proofs.DerivingRoom.{derivation_room}
-use Rattle.pc_top.proofs.Room.{Room}
-use Rattle.pc_top.proofs.Shapes.{Derives}
+use Rattle.pc_top.proofs.{Accepted.{of_source, of_told}, Deriving.source_says, DerivingRoom.derivation_room, Room.Room, Shapes.Derives}
 
 upgrade_on_out : (file derivation : Named) (v : Verdict) (out : Change) → Appends out.before out.now v.out → Derives (deriv_text version.Two) file derivation v
     → IfSome file.known (λ bytes. IfSome derivation.known (WritesUpgraded out bytes))

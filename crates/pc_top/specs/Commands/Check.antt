@@ -1,13 +1,12 @@
 -- `check SRC`.
-use Rattle.std.specs.Prelude.{◌≡◌}
-use Rattle.std.specs.Io.KnownBytes.{Appends}
+use Rattle.std.specs.{Prelude.◌≡◌, Io.KnownBytes.Appends}
 use Rattle.pc_io.specs.Sink.{Change}
 use Rattle.pc_ann.specs.declared.annotation.Ann.{Ann}
-use Rattle.pc_lists.specs.Lists.{Text}
+use Rattle.pc_base.specs.Lists.{Text}
 use Rattle.pc_core.specs.CoreData.{CoreData}
 use Rattle.pc_deriv.specs.Text.{IsText}
 use Rattle.pc_valid.specs.Valid.{Valid}
-use Rattle.pc_refusals.specs.{Verdict.Named, Verdict.Verdict, Verdict.done, declared.typing.Accepted.Accepted}
+use Rattle.pc_refusals.specs.{Verdict.{Named, Verdict, done}, declared.typing.Accepted.Accepted}
 use Rattle.pc_top.specs.{CoreOf.CoreOf, Shapes.OfAccepted}
 use Rattle.pc_deriv.specs.declared.version.Version.TheVariants as version
 

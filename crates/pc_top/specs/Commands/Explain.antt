@@ -1,13 +1,12 @@
 -- `explain SRC`.
-use Rattle.std.specs.Prelude.{◌≡◌, List, Result, Ok, Err}
-use Rattle.std.specs.Io.KnownBytes.{Appends}
+use Rattle.std.specs.{Prelude.{◌≡◌, List, Result, Ok, Err}, Io.KnownBytes.Appends}
 use Rattle.pc_grammar.specs.FileAnswers.{IsFileAnswer, spelled}
 use Rattle.pc_io.specs.Sink.{Change}
 use Rattle.pc_lex.specs.Pieces.{TokenList}
-use Rattle.pc_lists.specs.Lists.{Text}
-use Rattle.pc_refusals.specs.{Source.FromFile, Source.FileStage, Source.source_limit, Verdict.Named, Verdict.Reading, Verdict.whole, Verdict.Verdict, Verdict.done}
+use Rattle.pc_base.specs.Lists.{Text}
+use Rattle.pc_refusals.specs.{Source.{FromFile, FileStage, source_limit}, Verdict.{Named, Reading, whole, Verdict, done}}
 use Rattle.pc_token.specs.declared.kinds.Token.{Token}
-use Rattle.pc_core_commands.specs.Explain.{Explaining}
+use Rattle.pc_commands.specs.Explain.{Explaining}
 use Rattle.pc_tree.specs.Tree as t
 
 -- The stages of a source, one after another: its length, its tokens and its tree, and then the text for the tree.

@@ -1,6 +1,6 @@
 -- `judge SRC DERIV`.
-use Rattle.pc_refusals.specs.{Derivation.in_parts, Verdict.Named, Verdict.Verdict}
-use Rattle.pc_core_commands.specs.Judge.{accepted_text}
+use Rattle.pc_refusals.specs.{Derivation.in_parts, Verdict.{Named, Verdict}}
+use Rattle.pc_commands.specs.Judge.{accepted_text}
 use Rattle.pc_top.specs.Shapes.{OfDerivation}
 
 -- The verdict of `judge` on this source and this derivation, which is read in parts: `accepted`, or the verdict on the

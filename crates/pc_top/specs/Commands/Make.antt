@@ -1,16 +1,15 @@
 -- `make SEED SIZE`.
-use Rattle.std.specs.Prelude.{ℕ, ◌≡◌, ◌++◌, length}
-use Rattle.std.specs.Io.KnownBytes.{Appends}
+use Rattle.std.specs.{Prelude.{ℕ, ◌≡◌, ◌++◌, length}, Io.KnownBytes.Appends}
 use Rattle.pc_io.specs.Sink.{Change}
 use Rattle.pc_core.specs.CoreData.{CoreData}
 use Rattle.pc_args.specs.Line.{IsSeed, IsSize}
 use Rattle.pc_gen.specs.Generated.{generated_text, schedule}
 use Rattle.pc_run.specs.Spreading.{spread}
 use Rattle.pc_semantics.specs.Text.{run_text}
-use Rattle.pc_lists.specs.Lists.{Text}
+use Rattle.pc_base.specs.Lists.{Text}
 use Rattle.pc_refusal_lines.specs.Lines.{counts_line, usage_line}
-use Rattle.pc_refusals.specs.{Verdict.text_as, Verdict.Verdict, Verdict.refused, declared.typing.Accepted.Accepted}
-use Rattle.pc_core_commands.specs.Make.{RanMade, SpellsNone, made_name}
+use Rattle.pc_refusals.specs.{Verdict.{text_as, Verdict, refused}, declared.typing.Accepted.Accepted}
+use Rattle.pc_commands.specs.Make.{RanMade, SpellsNone, made_name}
 use Rattle.pc_top.specs.{CoreOf.CoreOf, Shapes.OfAccepted}
 
 -- The run of its core by its own schedule, after the line of its numbers.

@@ -1,13 +1,12 @@
 -- `outcomes SRC COUNT`.
-use Rattle.std.specs.Prelude.{ℕ, List}
-use Rattle.std.specs.Io.KnownBytes.{Appends}
+use Rattle.std.specs.{Prelude.{ℕ, List}, Io.KnownBytes.Appends}
 use Rattle.pc_io.specs.Sink.{Change}
 use Rattle.pc_core.specs.CoreData.{CoreData}
-use Rattle.pc_lists.specs.Lists.{Text}
+use Rattle.pc_base.specs.Lists.{Text}
 use Rattle.pc_outcomes.specs.{Tables.IsOutcomesTable, Texts.outcomes_text, declared.entry.Entry.Entry}
-use Rattle.pc_refusals.specs.{Verdict.Named, Verdict.EndsWith, Verdict.Verdict, declared.typing.Accepted.Accepted}
-use Rattle.pc_core_commands.specs.Outcomes.{IsCount, OutcomesTelling}
-use Rattle.pc_top.specs.{CoreOf.CoreOf, Shapes.ByNumber, Shapes.OfAccepted}
+use Rattle.pc_refusals.specs.{Verdict.{Named, EndsWith, Verdict}, declared.typing.Accepted.Accepted}
+use Rattle.pc_commands.specs.Outcomes.{IsCount, OutcomesTelling}
+use Rattle.pc_top.specs.{CoreOf.CoreOf, Shapes.{ByNumber, OfAccepted}}
 
 -- Done with this text, or refused. A line on err names the source by this name.
 abbrev pub Tabled : Text → (count : ℕ) → Accepted → Verdict → Type 0

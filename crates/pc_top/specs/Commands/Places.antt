@@ -1,11 +1,10 @@
 -- `places SRC`.
-use Rattle.std.specs.Prelude.{◌≡◌}
-use Rattle.std.specs.Io.KnownBytes.{Appends}
+use Rattle.std.specs.{Prelude.◌≡◌, Io.KnownBytes.Appends}
 use Rattle.pc_io.specs.Sink.{Change}
-use Rattle.pc_lists.specs.Lists.{Text}
+use Rattle.pc_base.specs.Lists.{Text}
 use Rattle.pc_core.specs.CoreData.{CoreData}
 use Rattle.pc_places.specs.Text.{IsPlacesText}
-use Rattle.pc_refusals.specs.{Source.FromFile, Source.SourceStage, Source.source_limit, Verdict.Named, Verdict.Verdict, Verdict.done, declared.source.Source.Source}
+use Rattle.pc_refusals.specs.{Source.{FromFile, SourceStage, source_limit}, Verdict.{Named, Verdict, done}, declared.source.Source.Source}
 use Rattle.pc_top.specs.CoreOf.{CoreOf}
 
 -- Done, with the text of the places of the source's core.

@@ -1,15 +1,14 @@
 -- `play SRC SEED`.
-use Rattle.std.specs.Prelude.{ℕ, List}
-use Rattle.std.specs.Io.KnownBytes.{Appends}
+use Rattle.std.specs.{Prelude.{ℕ, List}, Io.KnownBytes.Appends}
 use Rattle.pc_io.specs.Sink.{Change}
 use Rattle.pc_args.specs.Line.{IsSeed}
 use Rattle.pc_choose.specs.Lists.{Chosen}
 use Rattle.pc_core.specs.CoreData.{CoreData}
-use Rattle.pc_lists.specs.Lists.{Text}
+use Rattle.pc_base.specs.Lists.{Text}
 use Rattle.pc_semantics.specs.Text.{run_text}
-use Rattle.pc_refusals.specs.{Verdict.Named, Verdict.Verdict, declared.typing.Accepted.Accepted}
-use Rattle.pc_core_commands.specs.Play.{RanChosen}
-use Rattle.pc_top.specs.{CoreOf.CoreOf, Shapes.ByNumber, Shapes.OfAccepted}
+use Rattle.pc_refusals.specs.{Verdict.{Named, Verdict}, declared.typing.Accepted.Accepted}
+use Rattle.pc_commands.specs.Play.{RanChosen}
+use Rattle.pc_top.specs.{CoreOf.CoreOf, Shapes.{ByNumber, OfAccepted}}
 
 -- The run of the list that the seed chooses, for an accepted source. A line on err names it by this name.
 abbrev pub Played : Text → (seed : ℕ) → Accepted → Verdict → Type 0

@@ -1,14 +1,13 @@
 -- `run SRC SCHED`.
-use Rattle.std.specs.Prelude.{List}
-use Rattle.std.specs.Io.KnownBytes.{Appends}
+use Rattle.std.specs.{Prelude.List, Io.KnownBytes.Appends}
 use Rattle.pc_io.specs.Sink.{Change}
-use Rattle.pc_lists.specs.Lists.{Text}
+use Rattle.pc_base.specs.Lists.{Text}
 use Rattle.pc_core.specs.CoreData.{CoreData}
 use Rattle.pc_run.specs.Spreading.{spread}
 use Rattle.pc_sched.specs.{Schedules.TurnList, declared.turns.Turn.Turn}
 use Rattle.pc_semantics.specs.Text.{run_text}
 use Rattle.pc_refusals.specs.Verdict.{Named, Verdict}
-use Rattle.pc_core_commands.specs.Run.{Ran}
+use Rattle.pc_commands.specs.Run.{Ran}
 use Rattle.pc_top.specs.{CoreOf.CoreOf, Shapes.OfScheduled}
 
 -- The verdict of `run` on this source and this schedule.

@@ -1,13 +1,12 @@
 -- `schedule SRC SEED`.
-use Rattle.std.specs.Prelude.{ℕ, ◌≡◌}
-use Rattle.std.specs.Io.KnownBytes.{Appends}
+use Rattle.std.specs.{Prelude.{ℕ, ◌≡◌}, Io.KnownBytes.Appends}
 use Rattle.pc_io.specs.Sink.{Change}
 use Rattle.pc_args.specs.Line.{IsSeed}
 use Rattle.pc_core.specs.CoreData.{CoreData}
-use Rattle.pc_lists.specs.Lists.{Text}
-use Rattle.pc_refusals.specs.{Verdict.Named, Verdict.Verdict, Verdict.done, declared.typing.Accepted.Accepted}
-use Rattle.pc_core_commands.specs.Schedule.{IsChosenLine}
-use Rattle.pc_top.specs.{CoreOf.CoreOf, Shapes.ByNumber, Shapes.OfAccepted}
+use Rattle.pc_base.specs.Lists.{Text}
+use Rattle.pc_refusals.specs.{Verdict.{Named, Verdict, done}, declared.typing.Accepted.Accepted}
+use Rattle.pc_commands.specs.Schedule.{IsChosenLine}
+use Rattle.pc_top.specs.{CoreOf.CoreOf, Shapes.{ByNumber, OfAccepted}}
 
 -- Done, with this line.
 abbrev pub Scheduled : (seed : ℕ) → Accepted → Verdict → Type 0

@@ -1,16 +1,15 @@
 -- `sends SRC`.
-use Rattle.std.specs.Prelude.{◌≡◌}
-use Rattle.std.specs.Io.KnownBytes.{Appends}
+use Rattle.std.specs.{Prelude.◌≡◌, Io.KnownBytes.Appends}
 use Rattle.pc_io.specs.Sink.{Change}
 use Rattle.pc_ann.specs.declared.annotation.Ann.{Ann}
 use Rattle.pc_core.specs.CoreData.{CoreData}
 use Rattle.pc_noted_receivers.specs.Noted.{noted_entities}
 use Rattle.pc_valid.specs.Valid.{Valid}
 use Rattle.pc_sends.specs.{Tables.IsTable, declared.table.Table.Table}
-use Rattle.pc_lists.specs.Lists.{Text}
+use Rattle.pc_base.specs.Lists.{Text}
 use Rattle.pc_top.specs.{CoreOf.CoreOf, Shapes.OfAccepted}
-use Rattle.pc_refusals.specs.{Verdict.Named, Verdict.Verdict, Verdict.done, declared.typing.Accepted.Accepted}
-use Rattle.pc_core_commands.specs.Sends.{IsSendsText, NamesAreThere, TellsEveryRun, table_text}
+use Rattle.pc_refusals.specs.{Verdict.{Named, Verdict, done}, declared.typing.Accepted.Accepted}
+use Rattle.pc_commands.specs.Sends.{IsSendsText, NamesAreThere, TellsEveryRun, table_text}
 
 -- Done, with this text of its core's valid annotation.
 abbrev pub Sent : Accepted → Verdict → Type 0

@@ -1,13 +1,12 @@
 -- `show SRC`.
-use Rattle.std.specs.Prelude.{◌≡◌, List}
-use Rattle.std.specs.Io.KnownBytes.{Appends}
+use Rattle.std.specs.{Prelude.{◌≡◌, List}, Io.KnownBytes.Appends}
 use Rattle.pc_io.specs.Sink.{Change}
-use Rattle.pc_lists.specs.Lists.{Text}
+use Rattle.pc_base.specs.Lists.{Text}
 use Rattle.pc_grammar.specs.FileAnswers.{IsFileAnswer, spelled}
 use Rattle.pc_lex.specs.Pieces.{TokenList}
 use Rattle.pc_print.specs.Printing.{printed}
 use Rattle.pc_token.specs.declared.kinds.Token.{Token}
-use Rattle.pc_refusals.specs.{Source.FromFile, Source.FileStage, Source.source_limit, Verdict.Named, Verdict.Verdict, Verdict.done}
+use Rattle.pc_refusals.specs.{Source.{FromFile, FileStage, source_limit}, Verdict.{Named, Verdict, done}}
 use Rattle.pc_tree.specs.Tree as t
 
 -- Done, with the printed text of the tree.

@@ -1,15 +1,14 @@
 -- `swap SRC SCHED PLACE`.
-use Rattle.std.specs.Prelude.{ℕ, ◌≡◌, List}
-use Rattle.std.specs.Io.KnownBytes.{Appends}
+use Rattle.std.specs.{Prelude.{ℕ, ◌≡◌, List}, Io.KnownBytes.Appends}
 use Rattle.pc_io.specs.Sink.{Change}
 use Rattle.pc_core.specs.CoreData.{CoreData}
 use Rattle.pc_run.specs.Spreading.{spread}
 use Rattle.pc_sched.specs.{Schedules.TurnList, declared.turns.Turn.Turn}
-use Rattle.pc_lists.specs.Lists.{Text}
+use Rattle.pc_base.specs.Lists.{Text}
 use Rattle.pc_refusal_lines.specs.Lines.{usage_line}
 use Rattle.pc_refusals.specs.Verdict.{Named, EndsWith, Verdict, refused}
-use Rattle.pc_core_commands.specs.Swap.{IsPlace, Neighbours, StandAt, SwapText, Swapping}
-use Rattle.pc_top.specs.{CoreOf.CoreOf, Shapes.OfScheduled, Shapes.UnreadScheduled}
+use Rattle.pc_commands.specs.Swap.{IsPlace, Neighbours, StandAt, SwapText, Swapping}
+use Rattle.pc_top.specs.{CoreOf.CoreOf, Shapes.{OfScheduled, UnreadScheduled}}
 
 -- The exchange at this place of an accepted source's schedule.
 abbrev pub IsSwapAt : Named → Named → ℕ → Verdict → Type 0

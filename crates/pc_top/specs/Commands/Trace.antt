@@ -1,16 +1,15 @@
 -- `trace SRC SCHED`.
-use Rattle.std.specs.Prelude.{List}
-use Rattle.std.specs.Io.KnownBytes.{Appends}
+use Rattle.std.specs.{Prelude.List, Io.KnownBytes.Appends}
 use Rattle.pc_io.specs.Sink.{Change}
 use Rattle.pc_core.specs.CoreData.{CoreData}
 use Rattle.pc_run.specs.Spreading.{spread}
 use Rattle.pc_sched.specs.{Schedules.TurnList, declared.turns.Turn.Turn}
 use Rattle.pc_trace.specs.declared.touch.Touch.{Touch}
-use Rattle.pc_lists.specs.Lists.{Text}
+use Rattle.pc_base.specs.Lists.{Text}
 use Rattle.pc_refusals.specs.Verdict.{Named, EndsWith, Verdict}
 use Rattle.pc_top.specs.{CoreOf.CoreOf, Shapes.OfScheduled}
 use Rattle.pc_run_events.specs.Lines.{trace_text}
-use Rattle.pc_core_commands.specs.Trace.{Traced, Tracing}
+use Rattle.pc_commands.specs.Trace.{Traced, Tracing}
 
 -- The verdict of `trace` on this source and this schedule.
 abbrev pub IsTrace : Named → Named → Verdict → Type 0

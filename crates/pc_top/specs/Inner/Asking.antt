@@ -1,7 +1,7 @@
 -- What the referee was asked by a command that ended in this way.
 use Rattle.std.specs.Prelude.{◌≡◌, Option, Some, Result, Ok, Err}
 use Rattle.pc_referee.specs.Asked.{Pairs}
-use Rattle.pc_lists.specs.Lists.{Text}
+use Rattle.pc_base.specs.Lists.{Text}
 use Rattle.pc_args.specs.Asked.{Asked, judge}
 use Rattle.pc_refusals.specs.{Inner.Derivations.NotDone, declared.stop.Stop.Stop}
 use Rattle.pc_top.specs.Referee.{IsNoJudge, JudgedAll}

@@ -1,7 +1,7 @@
 -- How reading a number among the words, and then a source that must be accepted, ended.
 use Rattle.std.specs.Prelude.{ℕ, ◌≡◌, Option, Some, None, Result, Ok, Err}
-use Rattle.pc_lists.specs.Lists.{Text}
-use Rattle.pc_refusals.specs.{Source.AcceptedStage, Source.source_limit, Inner.Refusals.IsRefusal, Inner.Stages.PartGives, Inner.Stages.PartStops, Verdict.Files, Verdict.named, declared.stop.Stop.Stop}
+use Rattle.pc_base.specs.Lists.{Text}
+use Rattle.pc_refusals.specs.{Source.{AcceptedStage, source_limit}, Inner.Refusals.IsRefusal, Inner.Stages.{PartGives, PartStops}, Verdict.{Files, named}, declared.stop.Stop.Stop}
 use Rattle.pc_refusal_lines.specs.Lines.{usage_line}
 use Rattle.pc_top.specs.declared.numbered.Numbered.{Numbered}
 

@@ -1,14 +1,14 @@
 //! `check SRC`.
 ghost use Rattle.std.specs.Prelude.{◌≡◌, ◌≤◌};
-ghost use Rattle.pc_lists.specs.Lists.{Text};
+ghost use Rattle.pc_base.specs.Lists.{Text};
 ghost use Rattle.pc_refusals.specs.Inner.Answering.{AnswersText};
 ghost use Rattle.pc_refusals.specs.Verdict.{FailedAt, files_change, named};
 ghost use Rattle.pc_top.specs.Commands.Check.{IsCheck};
 
 use crate::accepting::accept_source;
 use crate::laws::cores_of_sources_are_formed;
-use pc_caps::List;
-use pc_core_commands::write_derivation;
+use pc_base::List;
+use pc_commands::write_derivation;
 use pc_io::Files;
 use pc_refusals::Stop;
 use std::alloc::Global;

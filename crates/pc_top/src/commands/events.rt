@@ -1,6 +1,6 @@
 //! `events SRC SCHED`.
 ghost use Rattle.std.specs.Prelude.{◌≡◌, ◌≤◌};
-ghost use Rattle.pc_lists.specs.Lists.{Text};
+ghost use Rattle.pc_base.specs.Lists.{Text};
 ghost use Rattle.pc_refusals.specs.Inner.Answering.{AnswersText};
 ghost use Rattle.pc_refusals.specs.Verdict.{files_change, named};
 ghost use Rattle.pc_top.specs.Commands.Events.{IsEvents};
@@ -8,8 +8,8 @@ ghost use Rattle.pc_top.specs.Shapes.{UnreadScheduled};
 
 use crate::laws::cores_of_sources_are_formed;
 use crate::scheduled::read_scheduled;
-use pc_caps::List;
-use pc_core_commands::tell_turns;
+use pc_base::List;
+use pc_commands::tell_turns;
 use pc_io::Files;
 use pc_refusals::Stop;
 use pc_regions::valid_is_safe;

@@ -1,6 +1,6 @@
 //! `judge SRC DERIV`.
 ghost use Rattle.std.specs.Prelude.{◌≡◌, ◌≤◌};
-ghost use Rattle.pc_lists.specs.Lists.{Text};
+ghost use Rattle.pc_base.specs.Lists.{Text};
 ghost use Rattle.pc_refusals.specs.Inner.Answering.{AnswersText};
 ghost use Rattle.pc_refusals.specs.Verdict.{files_change, named};
 ghost use Rattle.pc_top.specs.Commands.Judge.{IsJudge};
@@ -8,7 +8,7 @@ ghost use Rattle.pc_top.specs.Inner.Asking.{JudgeAsks};
 ghost use Rattle.pc_top.specs.Shapes.{UnreadDerivation};
 
 use crate::source::read_source;
-use pc_caps::List;
+use pc_base::List;
 use pc_io::Files;
 use pc_referee::Referee;
 use pc_refusals::{Stop, judge_derivation};

@@ -5,13 +5,13 @@ ghost use Rattle.pc_refusals.specs.Source.{AcceptedStage, source_limit};
 ghost use Rattle.pc_refusals.specs.Inner.Answering.{EndsCommand};
 ghost use Rattle.pc_refusals.specs.Inner.Stages.{PartEnds};
 ghost use Rattle.pc_refusals.specs.Verdict.{text_as};
-ghost use Rattle.pc_core_commands.specs.Make.{made_name};
+ghost use Rattle.pc_commands.specs.Make.{made_name};
 ghost use Rattle.pc_gen.specs.Generated.{generated_text};
 ghost use Rattle.pc_top.specs.Commands.Make.{IsMade, IsMake};
 
 use crate::accepting::accept_text;
 use crate::laws::cores_of_sources_are_formed;
-use pc_core_commands::{read_numbers, run_generated};
+use pc_commands::{read_numbers, run_generated};
 use pc_gen::make;
 use pc_io::{Bytes, Sink};
 use pc_print::print;

@@ -1,16 +1,16 @@
 //! `outcomes SRC COUNT`.
 ghost use Rattle.std.specs.Prelude.{◌≡◌, ◌≤◌};
-ghost use Rattle.pc_lists.specs.Lists.{Text};
+ghost use Rattle.pc_base.specs.Lists.{Text};
 ghost use Rattle.pc_refusals.specs.Inner.Answering.{AnswersText};
 ghost use Rattle.pc_refusals.specs.Verdict.{files_change, named};
-ghost use Rattle.pc_core_commands.specs.Outcomes.{IsCount};
+ghost use Rattle.pc_commands.specs.Outcomes.{IsCount};
 ghost use Rattle.pc_top.specs.Commands.Outcomes.{IsOutcomes};
 ghost use Rattle.pc_top.specs.Shapes.{UnreadNumbered};
 
 use crate::laws::cores_of_sources_are_formed;
 use crate::numbered::accept_numbered;
-use pc_caps::List;
-use pc_core_commands::{count_of, write_outcomes};
+use pc_base::List;
+use pc_commands::{count_of, write_outcomes};
 use pc_io::Files;
 use pc_refusals::Stop;
 use pc_types::accepted_never_lacks;

@@ -1,12 +1,12 @@
 //! `places SRC`.
 ghost use Rattle.std.specs.Prelude.{◌≡◌, ◌≤◌};
-ghost use Rattle.pc_lists.specs.Lists.{Text};
+ghost use Rattle.pc_base.specs.Lists.{Text};
 ghost use Rattle.pc_refusals.specs.Inner.Answering.{AnswersText};
 ghost use Rattle.pc_refusals.specs.Verdict.{FailedAt, files_change, named};
 ghost use Rattle.pc_top.specs.Commands.Places.{IsPlaces};
 
 use crate::source::read_source;
-use pc_caps::List;
+use pc_base::List;
 use pc_io::Files;
 use pc_places::write_places;
 use pc_refusals::Stop;

@@ -1,6 +1,6 @@
 //! `play SRC SEED`.
 ghost use Rattle.std.specs.Prelude.{◌≡◌, ◌≤◌};
-ghost use Rattle.pc_lists.specs.Lists.{Text};
+ghost use Rattle.pc_base.specs.Lists.{Text};
 ghost use Rattle.pc_args.specs.Line.{IsSeed};
 ghost use Rattle.pc_io.specs.Sink.{change};
 ghost use Rattle.pc_refusals.specs.Inner.Answering.{EndsCommand};
@@ -11,7 +11,7 @@ ghost use Rattle.pc_top.specs.Shapes.{UnreadNumbered};
 use crate::laws::cores_of_sources_are_formed;
 use crate::numbered::accept_numbered;
 use pc_args::seed_of;
-use pc_core_commands::play_core;
+use pc_commands::play_core;
 use pc_io::{Files, Sink};
 use pc_refusals::Stop;
 use pc_types::accepted_never_lacks;

@@ -1,6 +1,6 @@
 //! `run SRC SCHED`.
 ghost use Rattle.std.specs.Prelude.{◌≡◌, ◌≤◌};
-ghost use Rattle.pc_lists.specs.Lists.{Text};
+ghost use Rattle.pc_base.specs.Lists.{Text};
 ghost use Rattle.pc_io.specs.Sink.{change};
 ghost use Rattle.pc_refusals.specs.Inner.Answering.{EndsCommand};
 ghost use Rattle.pc_refusals.specs.Verdict.{files_change, named};
@@ -9,7 +9,7 @@ ghost use Rattle.pc_top.specs.Shapes.{UnreadScheduled};
 
 use crate::laws::cores_of_sources_are_formed;
 use crate::scheduled::read_scheduled;
-use pc_core_commands::run_turns;
+use pc_commands::run_turns;
 use pc_io::{Files, Sink};
 use pc_refusals::Stop;
 use pc_types::accepted_never_lacks;

@@ -1,6 +1,6 @@
 //! `schedule SRC SEED`.
 ghost use Rattle.std.specs.Prelude.{◌≡◌, ◌≤◌};
-ghost use Rattle.pc_lists.specs.Lists.{Text};
+ghost use Rattle.pc_base.specs.Lists.{Text};
 ghost use Rattle.pc_args.specs.Line.{IsSeed};
 ghost use Rattle.pc_refusals.specs.Inner.Answering.{AnswersText};
 ghost use Rattle.pc_refusals.specs.Verdict.{files_change, named};
@@ -9,8 +9,8 @@ ghost use Rattle.pc_top.specs.Shapes.{UnreadNumbered};
 
 use crate::numbered::accept_numbered;
 use pc_args::seed_of;
-use pc_caps::List;
-use pc_core_commands::write_chosen;
+use pc_base::List;
+use pc_commands::write_chosen;
 use pc_io::Files;
 use pc_refusals::Stop;
 use std::alloc::Global;

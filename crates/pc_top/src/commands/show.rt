@@ -1,11 +1,11 @@
 //! `show SRC`.
 ghost use Rattle.std.specs.Prelude.{◌≡◌, ◌≤◌};
-ghost use Rattle.pc_lists.specs.Lists.{Text};
+ghost use Rattle.pc_base.specs.Lists.{Text};
 ghost use Rattle.pc_refusals.specs.Inner.Answering.{AnswersText};
 ghost use Rattle.pc_refusals.specs.Verdict.{FailedAt, files_change, named};
 ghost use Rattle.pc_top.specs.Commands.Show.{IsShow};
 
-use pc_caps::List;
+use pc_base::List;
 use pc_io::Files;
 use pc_print::print;
 use pc_refusals::{SOURCE_LIMIT, Stop, parse_source, read_file};

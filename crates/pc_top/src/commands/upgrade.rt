@@ -1,14 +1,14 @@
 //! `upgrade SRC DERIV`.
 ghost use Rattle.std.specs.Prelude.{◌≡◌, ◌≤◌};
-ghost use Rattle.pc_lists.specs.Lists.{Text};
+ghost use Rattle.pc_base.specs.Lists.{Text};
 ghost use Rattle.pc_refusals.specs.Inner.Answering.{AnswersText};
 ghost use Rattle.pc_refusals.specs.Verdict.{files_change, named};
 ghost use Rattle.pc_top.specs.Commands.Upgrade.{IsUpgrade};
 ghost use Rattle.pc_top.specs.Shapes.{UnreadDerivation};
 
 use crate::source::read_source;
-use pc_caps::List;
-use pc_core_commands::upgrade_annotation;
+use pc_base::List;
+use pc_commands::upgrade_annotation;
 use pc_io::Files;
 use pc_refusals::{Stop, read_derivation};
 use std::alloc::Global;

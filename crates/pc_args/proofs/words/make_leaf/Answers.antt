@@ -1,10 +1,7 @@
-use Rattle.std.proofs.Common.{◌≡◌, ◌∙◌, ◌+◌, ◌<◌, ℕ, List, [], ◌∷◌, ◌++◌, ◌||◌, Bool, ap, ap₂, get_or, length, map, sym, take}
-use Rattle.std.proofs.lemmas.List.{map_more, map_push, take_all}
+use Rattle.std.proofs.{Common.{◌≡◌, ◌∙◌, ◌+◌, ◌<◌, ℕ, List, [], ◌∷◌, ◌++◌, ◌||◌, Bool, ap, ap₂, get_or, length, map, sym, take}, lemmas.List.{map_more, map_push, take_all}}
 use Rattle.std.specs.Borrow.{Bor}
-use Rattle.clap.specs.Simple.{Shape, new_shape}
-use Rattle.clap.specs.Words.{App, Rule, Text, app_of, rule_of, with_rule}
-use Rattle.pc_args.specs.Asked.{texts}
-use Rattle.pc_args.specs.Line.{positional}
+use Rattle.clap.specs.{Simple.{Shape, new_shape}, Words.{App, Rule, Text, app_of, rule_of, with_rule}}
+use Rattle.pc_args.specs.{Asked.texts, Line.positional}
 use Rattle.pc_args.proofs.words.make_leaf.Goals as goal
 
 abbrev leaf : Text → List (Bor Text) → Shape

@@ -1,9 +1,7 @@
 use Rattle.std.proofs.Common.{◌≡◌, take, map}
 use Rattle.std.specs.Prelude.{false}
-use Rattle.clap.specs.Simple.{new_shape, shape_of}
-use Rattle.clap.specs.declared.builder.command.Command.TheViews.{out-Command as fields_of}
-use Rattle.pc_args.specs.Asked.{texts}
-use Rattle.pc_args.specs.Line.{positional}
+use Rattle.clap.specs.{Simple.{new_shape, shape_of}, declared.builder.command.Command.TheViews.out-Command as fields_of}
+use Rattle.pc_args.specs.{Asked.texts, Line.positional}
 use Rattle.pc_args.proofs.words.make_leaf.Given as goal
 
 abbrev pub invariant-loop-id : goal.invariant-loop-id

@@ -1,7 +1,6 @@
 use Rattle.std.proofs.Common.{◌∙◌, ap}
 use Rattle.std.specs.Prelude.{true}
-use Rattle.clap.specs.Words.{Rule, rule_of}
-use Rattle.clap.specs.declared.builder.arg.Arg.{Arg}
+use Rattle.clap.specs.{Words.{Rule, rule_of}, declared.builder.arg.Arg.Arg}
 use Rattle.pc_args.proofs.words.make_positional.Goals as goal
 
 pub returns-clause-rule : goal.returns-clause-rule

@@ -1,7 +1,5 @@
-use Rattle.std.proofs.Common.{◌∙◌, ap}
-use Rattle.std.proofs.lemmas.Result.{IfOk-weaker}
-use Rattle.clap.specs.Simple.{Shape}
-use Rattle.clap.specs.Words.{App, with_subcommand}
+use Rattle.std.proofs.{Common.{◌∙◌, ap}, lemmas.Result.IfOk-weaker}
+use Rattle.clap.specs.{Simple.Shape, Words.{App, with_subcommand}}
 use Rattle.pc_args.specs.Subcommands as spec
 use Rattle.pc_args.proofs.words.make_rcap.Goals as goal
 

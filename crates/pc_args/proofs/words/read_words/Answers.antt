@@ -1,11 +1,8 @@
 use Rattle.std.proofs.Common.{rules, ◌≡◌, ◌∙◌, ap, sym, true, [], List, Option}
 use Rattle.std.specs.Prelude.{option_and_then}
 use Rattle.clap.specs.Words.{Row, Text, fault_of, takes}
-use Rattle.pc_args.specs.Asked.{asked_by_name, texts}
-use Rattle.pc_args.specs.Line.{rcap}
-use Rattle.pc_args.proofs.Forms.{nothing_asked}
-use Rattle.pc_args.proofs.Missing.{missing}
-use Rattle.pc_args.proofs.Refusals.{asks, refuses}
+use Rattle.pc_args.specs.{Asked.{asked_by_name, texts}, Line.rcap}
+use Rattle.pc_args.proofs.{Forms.nothing_asked, Missing.missing, Refusals.{asks, refuses}}
 use Rattle.pc_args.proofs.words.read_words.Goals as goal
 
 pub returns-in-Some : goal.returns-in-Some

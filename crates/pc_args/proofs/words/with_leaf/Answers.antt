@@ -1,13 +1,7 @@
-use Rattle.std.proofs.Common.{◌≡◌, ◌∙◌, ap, map}
+use Rattle.std.proofs.{Common.{◌≡◌, ◌∙◌, ap, map}, lemmas.Result.IfOk-weaker}
 use Rattle.std.specs.Prelude.{false}
-use Rattle.std.proofs.lemmas.Result.{IfOk-weaker}
-use Rattle.clap.specs.Built.{AddsSubcommand}
-use Rattle.clap.specs.Simple.{Shape, new_shape, shape_of}
-use Rattle.clap.specs.Words.{app_of, with_subcommand}
-use Rattle.clap.specs.declared.builder.command.Command.{Command}
-use Rattle.clap.specs.declared.builder.command.Command.TheViews.{out-Command as fields_of}
-use Rattle.pc_args.specs.Asked.{texts}
-use Rattle.pc_args.specs.Line.{positional}
+use Rattle.clap.specs.{Built.AddsSubcommand, Simple.{Shape, new_shape, shape_of}, Words.{app_of, with_subcommand}, declared.builder.command.Command.Command, declared.builder.command.Command.TheViews.out-Command as fields_of}
+use Rattle.pc_args.specs.{Asked.texts, Line.positional}
 use Rattle.pc_args.proofs.words.with_leaf.Goals as goal
 
 -- A command with one subcommand more has its shape.

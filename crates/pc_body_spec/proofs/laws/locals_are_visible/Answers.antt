@@ -1,5 +1,4 @@
-use Rattle.pc_body_spec.proofs.Scopes.{scoped}
-use Rattle.pc_body_spec.proofs.BodyScopes.{bodies_are_scoped, added_bodies_are_scoped}
+use Rattle.pc_body_spec.proofs.{Scopes.scoped, BodyScopes.{bodies_are_scoped, added_bodies_are_scoped}}
 use Rattle.pc_body_spec.proofs.laws.locals_are_visible.Goals as goal
 
 pub returns : goal.returns

@@ -1,5 +1,4 @@
-use Rattle.std.proofs.Common.{◌≡◌, [], sym}
-use Rattle.std.proofs.lemmas.Result.{err_from_is_err_and}
+use Rattle.std.proofs.{Common.{◌≡◌, [], sym}, lemmas.Result.err_from_is_err_and}
 use Rattle.pc_tree.specs.View.{expr_view, suffixes_view}
 use Rattle.pc_tree.proofs.Views.{view_chain}
 use Rattle.pc_body_walks.specs.Checking.{head_faults, args_faults, TellsFirstBodyFault, IsFirstBodyFault}

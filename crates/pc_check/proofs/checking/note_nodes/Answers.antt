@@ -1,10 +1,7 @@
 use Rattle.std.proofs.Common.{◌+◌, ap, sym, ◌∙◌, subst, length, arith}
 use Rattle.pc_rules.specs.Checks.{StartsFrom}
-use Rattle.pc_check.specs.Walked.{Walked}
-use Rattle.pc_check.specs.Faults.{InferenceLeavesUnset}
-use Rattle.pc_check.proofs.Filling.{node_there}
-use Rattle.pc_check.proofs.Walking.{note_meets, walked_noted, walked_whole}
-use Rattle.pc_check.proofs.Stopping.{ready, stops, leaves}
+use Rattle.pc_check.specs.{Walked.Walked, Faults.InferenceLeavesUnset}
+use Rattle.pc_check.proofs.{Filling.node_there, Walking.{note_meets, walked_noted, walked_whole}, Stopping.{ready, stops, leaves}}
 use Rattle.pc_check.proofs.checking.note_nodes.Goals as goal
 
 pub source_at-requires : goal.source_at-requires

@@ -1,5 +1,4 @@
-use Rattle.std.proofs.Common.{◌-◌, length, sym, ap, ◌∙◌, arith}
-use Rattle.std.proofs.lemmas.Option.{slice_get-get_or}
+use Rattle.std.proofs.{Common.{◌-◌, length, sym, ap, ◌∙◌, arith}, lemmas.Option.slice_get-get_or}
 use Rattle.pc_check.proofs.Filling.{else_later, next_later}
 use Rattle.pc_check.proofs.sources.later_source.Goals as goal
 

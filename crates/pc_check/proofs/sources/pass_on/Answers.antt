@@ -1,5 +1,4 @@
-use Rattle.std.proofs.Common.{◌+◌, length, sym, ap, ◌∙◌, slice_get, arith}
-use Rattle.std.proofs.lemmas.Option.{slice_get-get_or}
+use Rattle.std.proofs.{Common.{◌+◌, length, sym, ap, ◌∙◌, slice_get, arith}, lemmas.Option.slice_get-get_or}
 use Rattle.pc_check.proofs.Filling.{child_within, own_placed, part_start, part_step, part_whole, node_there}
 use Rattle.pc_check.proofs.sources.pass_on.Goals as goal
 

@@ -1,6 +1,5 @@
 use Rattle.std.proofs.Common.{◌<◌, ◌∙◌, take, ◌+◌, ◌++◌, ◌∷◌, [], ℕ, List, length, sum, ap, sym, arith}
-use Rattle.pc_choose.specs.Able.{able}
-use Rattle.pc_choose.specs.Marks.{marks_of}
+use Rattle.pc_choose.specs.{Able.able, Marks.marks_of}
 use Rattle.pc_choose.proofs.Places.{mark_small, marks_fit, one_mark_more}
 use Rattle.pc_choose.proofs.able.marks.Goals as goal
 

@@ -1,5 +1,4 @@
-use Rattle.std.proofs.Common.{◌∙◌, ap, length, sym, arith}
-use Rattle.std.proofs.lemmas.List.{length_push}
+use Rattle.std.proofs.{Common.{◌∙◌, ap, length, sym, arith}, lemmas.List.length_push}
 use Rattle.pc_semantics.specs.declared.ahead.Ahead.{Ahead}
 use Rattle.pc_choose.specs.Marks.{marks_by}
 use Rattle.pc_choose.proofs.Places.{marks_sum}

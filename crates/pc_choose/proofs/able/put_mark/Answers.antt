@@ -1,5 +1,4 @@
-use Rattle.std.proofs.Common.{sym, arith}
-use Rattle.std.proofs.lemmas.Option.{slice_get_within}
+use Rattle.std.proofs.{Common.{sym, arith}, lemmas.Option.slice_get_within}
 use Rattle.pc_choose.proofs.Places.{marks_room}
 use Rattle.pc_choose.proofs.able.put_mark.Goals as goal
 

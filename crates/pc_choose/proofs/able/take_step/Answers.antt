@@ -1,7 +1,6 @@
 use Rattle.std.proofs.Common.{◌∙◌, ap, sym}
 use Rattle.pc_semantics.specs.declared.outcome.Outcome.{Outcome}
-use Rattle.pc_choose.proofs.Places.{are_known}
-use Rattle.pc_choose.proofs.Marking.{counts, kept, kept_at_lack}
+use Rattle.pc_choose.proofs.{Places.are_known, Marking.{counts, kept, kept_at_lack}}
 use Rattle.pc_choose.proofs.able.take_step.Goals as goal
 
 pub note-requires-clause-marks : goal.note-requires-clause-marks

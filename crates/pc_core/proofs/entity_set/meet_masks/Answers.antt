@@ -1,8 +1,6 @@
-use Rattle.std.proofs.Common.{rules, ◌≡◌, ◌↔◌, ℕ, ◌+◌, ◌∷◌, ◌++◌, [], length, sym, subst, arith}
+use Rattle.std.proofs.{Common.{rules, ◌≡◌, ◌↔◌, ℕ, ◌+◌, ◌∷◌, ◌++◌, [], length, sym, subst, arith}, lemmas.List.length_push}
 use Rattle.std.specs.Prelude.{List}
-use Rattle.std.proofs.lemmas.List.{length_push}
-use Rattle.pc_masks.specs.Masks.{IsInMask}
-use Rattle.pc_masks.specs.declared.mask.Mask.{Mask}
+use Rattle.pc_masks.specs.{Masks.IsInMask, declared.mask.Mask.Mask}
 use Rattle.pc_core.specs.EntitySets.{mask_at}
 use Rattle.pc_core.proofs.EntitySets.{MetTo, met_push, met_all}
 use Rattle.pc_core.proofs.entity_set.meet_masks.Goals as goal

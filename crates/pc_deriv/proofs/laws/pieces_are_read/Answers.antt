@@ -1,5 +1,4 @@
-use Rattle.pc_deriv.proofs.Feeding.{fed_both}
-use Rattle.pc_deriv.proofs.Whole.{read_whole, texts_are_taken, faults_are_found, faults_stay}
+use Rattle.pc_deriv.proofs.{Feeding.fed_both, Whole.{read_whole, texts_are_taken, faults_are_found, faults_stay}}
 use Rattle.pc_deriv.proofs.laws.pieces_are_read.Goals as goal
 
 pub returns-clause-cuts : goal.returns-clause-cuts

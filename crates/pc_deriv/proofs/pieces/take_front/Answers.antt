@@ -1,6 +1,5 @@
 use Rattle.std.proofs.Common.{sym, ap, ◌∙◌, arith}
-use Rattle.pc_deriv.specs.Lines.{behind}
-use Rattle.pc_deriv.specs.LineState.{taken_of}
+use Rattle.pc_deriv.specs.{Lines.behind, LineState.taken_of}
 use Rattle.pc_deriv.proofs.WholeLines.{stands_at, nothing_left, whole_line, whole_fault}
 use Rattle.pc_deriv.proofs.pieces.take_front.Goals as goal
 

@@ -1,8 +1,6 @@
-use Rattle.std.proofs.Common.{◌+◌, sym, ◌∙◌, refl, arith}
-use Rattle.std.proofs.lemmas.Result.{err_from_is_err_and}
-use Rattle.pc_deriv.proofs.Reached.{head_bad, too_many, slots_refused, notes_refused, bad_rest, some_left, none_left, whole_text}
+use Rattle.std.proofs.{Common.{◌+◌, sym, ◌∙◌, refl, arith}, lemmas.Result.err_from_is_err_and}
+use Rattle.pc_deriv.proofs.{Reached.{head_bad, too_many, slots_refused, notes_refused, bad_rest, some_left, none_left, whole_text}, reading.read_lines.Goals.{then-slot_count-gt-PROGRAM_SLOT_LIMIT-via-then-slot_count-gt-PROGRAM_SLOT_LIMIT, then-slot_count-gt-PROGRAM_SLOT_LIMIT-via-else-slot_count-gt-PROGRAM_SLOT_LIMIT+then-node_count-gt-NODE_LIMIT}}
 use Rattle.pc_deriv.proofs.reading.read_lines.Goals as goal
-use Rattle.pc_deriv.proofs.reading.read_lines.Goals.{then-slot_count-gt-PROGRAM_SLOT_LIMIT-via-then-slot_count-gt-PROGRAM_SLOT_LIMIT, then-slot_count-gt-PROGRAM_SLOT_LIMIT-via-else-slot_count-gt-PROGRAM_SLOT_LIMIT+then-node_count-gt-NODE_LIMIT}
 
 pub returns-in-None-clause-err : goal.returns-in-None-clause-err
 returns-in-None-clause-err c = head_bad c.args.bytes.now (sym c.in-None.ensures)

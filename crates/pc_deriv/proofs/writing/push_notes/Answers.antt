@@ -1,8 +1,6 @@
 use Rattle.std.proofs.Common.{◌++◌}
-use Rattle.pc_deriv.specs.Text.{note_line, NoteFits}
-use Rattle.pc_deriv.specs.Parts.{each_line}
-use Rattle.pc_deriv.proofs.Fitting.{fits_more, lines_more}
-use Rattle.pc_deriv.proofs.MaskTexts.{masks_stay}
+use Rattle.pc_deriv.specs.{Text.{note_line, NoteFits}, Parts.each_line}
+use Rattle.pc_deriv.proofs.{Fitting.{fits_more, lines_more}, MaskTexts.masks_stay}
 use Rattle.pc_deriv.proofs.writing.push_notes.Goals as goal
 
 pub loop-note-preserved : goal.loop-note-preserved

@@ -1,8 +1,7 @@
 use Rattle.std.proofs.Common.{◌≡◌, ◌++◌, drop, take, Some}
 use Rattle.std.specs.List.{AllByRecursion}
 use Rattle.pc_ann.specs.declared.annotation.Note.{Note}
-use Rattle.pc_deriv.specs.Text.{masks_text, note_line, NoteFits}
-use Rattle.pc_deriv.specs.Parts.{each_line}
+use Rattle.pc_deriv.specs.{Text.{masks_text, note_line, NoteFits}, Parts.each_line}
 use Rattle.pc_deriv.proofs.writing.push_notes.Given as goal
 
 abbrev pub invariant-loop-note : goal.invariant-loop-note

@@ -1,7 +1,6 @@
 use Rattle.std.proofs.Common.{◌++◌}
 use Rattle.pc_caps.specs.declared.capability.Cap.TheVariants as cap
-use Rattle.pc_deriv.specs.Text.{slot_line, SlotFits}
-use Rattle.pc_deriv.specs.Parts.{each_line}
+use Rattle.pc_deriv.specs.{Text.{slot_line, SlotFits}, Parts.each_line}
 use Rattle.pc_deriv.proofs.Fitting.{fits_more, lines_more}
 use Rattle.pc_deriv.proofs.writing.push_slots.Goals as goal
 

@@ -1,7 +1,6 @@
 use Rattle.std.proofs.Common.{◌≡◌, ◌++◌, drop, take}
 use Rattle.std.specs.List.{AllByRecursion}
-use Rattle.pc_deriv.specs.Text.{slot_line, SlotFits}
-use Rattle.pc_deriv.specs.Parts.{each_line}
+use Rattle.pc_deriv.specs.{Text.{slot_line, SlotFits}, Parts.each_line}
 use Rattle.pc_deriv.proofs.writing.push_slots.Given as goal
 
 abbrev pub invariant-loop-slot : goal.invariant-loop-slot

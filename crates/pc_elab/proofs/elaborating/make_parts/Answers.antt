@@ -1,12 +1,8 @@
-use Rattle.std.proofs.Common.{◌≡◌, ◌++◌, ◌∙◌, sym, ap, map}
-use Rattle.std.proofs.lemmas.Result.{err_from_is_err_and}
-use Rattle.pc_tree.specs.View.{entity_view, file_view}
-use Rattle.pc_tree.specs.Kinds.{first_own}
+use Rattle.std.proofs.{Common.{◌≡◌, ◌++◌, ◌∙◌, sym, ap, map}, lemmas.Result.err_from_is_err_and}
+use Rattle.pc_tree.specs.{View.{entity_view, file_view}, Kinds.first_own}
 use Rattle.pc_file_spec.specs.Cores.{built_ins, parts_of}
-use Rattle.pc_elab.specs.Outcomes.{row_members}
-use Rattle.pc_elab.specs.Rows.{entity_rows}
+use Rattle.pc_elab.specs.{Outcomes.row_members, Rows.entity_rows, Views.parts_view}
 use Rattle.pc_members.specs.Views.{table_view}
-use Rattle.pc_elab.specs.Views.{parts_view}
 use Rattle.pc_elab.proofs.Wholes.{core_is, grows_stop, parts_are}
 use Rattle.pc_elab.proofs.elaborating.make_parts.Goals as goal
 

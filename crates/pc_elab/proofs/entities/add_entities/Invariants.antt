@@ -1,6 +1,5 @@
 use Rattle.std.proofs.Common.{◌≡◌, ◌++◌, ◌+◌, drop, map}
-use Rattle.pc_tree.specs.View.{entity_view}
-use Rattle.pc_tree.specs.Kinds.{first_own}
+use Rattle.pc_tree.specs.{View.entity_view, Kinds.first_own}
 use Rattle.pc_file_spec.specs.Cores.{built_ins}
 use Rattle.pc_elab.specs.Rows.{entity_rows}
 use Rattle.pc_members.specs.Views.{table_view}

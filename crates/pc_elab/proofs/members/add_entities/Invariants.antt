@@ -1,9 +1,7 @@
 use Rattle.std.proofs.Common.{◌≡◌, ◌+◌, drop, map}
-use Rattle.pc_tree.specs.View.{entity_view}
-use Rattle.pc_tree.specs.Kinds.{first_own}
-use Rattle.pc_elab.specs.Outcomes.{row_members}
+use Rattle.pc_tree.specs.{View.entity_view, Kinds.first_own}
+use Rattle.pc_elab.specs.{Outcomes.row_members, Views.parts_view}
 use Rattle.pc_members.specs.Views.{table_view}
-use Rattle.pc_elab.specs.Views.{parts_view}
 use Rattle.pc_elab.proofs.members.add_entities.Given as goal
 
 abbrev pub invariant-loop-at : goal.invariant-loop-at

@@ -1,9 +1,8 @@
 use Rattle.std.proofs.Common.{◌≡◌, drop, map}
 use Rattle.pc_tree.specs.View.{entity_view}
 use Rattle.pc_file_spec.specs.Cores.{owned}
-use Rattle.pc_elab.specs.Outcomes.{own_members, with_slots}
+use Rattle.pc_elab.specs.{Outcomes.{own_members, with_slots}, Views.parts_view}
 use Rattle.pc_members.specs.Views.{members_view}
-use Rattle.pc_elab.specs.Views.{parts_view}
 use Rattle.pc_elab.proofs.members.add_members.Given as goal
 
 abbrev pub invariant-loop-member : goal.invariant-loop-member

@@ -1,6 +1,5 @@
 use Rattle.std.proofs.Common.{◌≡◌, ◌++◌, drop, map}
-use Rattle.pc_members.specs.Members.{member_text}
-use Rattle.pc_members.specs.Views.{members_view}
+use Rattle.pc_members.specs.{Members.member_text, Views.members_view}
 use Rattle.pc_elab.proofs.members.list_member_names.Given as goal
 
 abbrev pub invariant-loop-member : goal.invariant-loop-member

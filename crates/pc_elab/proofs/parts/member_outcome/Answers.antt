@@ -1,11 +1,9 @@
 use Rattle.std.proofs.Common.{◌∙◌, refl, sym, ap, subst, Err}
-use Rattle.pc_emit.specs.declared.stop.EmitStop.{EmitStop}
-use Rattle.pc_emit.specs.Giving.{GivesNodes, put_written}
+use Rattle.pc_emit.specs.{declared.stop.EmitStop.EmitStop, Giving.{GivesNodes, put_written}}
 use Rattle.pc_tree.specs.View.{entity_view}
 use Rattle.pc_body_spec.specs.Methods.{nodes_full, put_body}
-use Rattle.pc_members.specs.MemberLists.{member_span}
+use Rattle.pc_members.specs.{MemberLists.member_span, Views.member_view}
 use Rattle.pc_elab.specs.Outcomes as spec
-use Rattle.pc_members.specs.Views.{member_view}
 use Rattle.pc_elab.proofs.Outcomes.{body_full}
 use Rattle.pc_elab.proofs.parts.member_outcome.Goals as goal
 

@@ -1,12 +1,9 @@
 use Rattle.std.proofs.Common.{◌≡◌, ◌++◌, [], ◌∷◌, Some, map, refl, subst}
 use Rattle.pc_tree.specs.View.{field_view}
 use Rattle.pc_body_spec.specs.Bodies as spec
-use Rattle.pc_body_spec.specs.Bodies.{added_none, Roses, one}
-use Rattle.pc_body_spec.specs.Fold.{puts}
-use Rattle.pc_emit.specs.Giving.{GivesNodes}
-use Rattle.pc_emit.specs.Closing.{body_closes}
-use Rattle.pc_emit.proofs.Walks.{inner_gives}
-use Rattle.pc_emit.proofs.Wholes.{body_on}
+use Rattle.pc_body_spec.specs.{Bodies.{added_none, Roses, one}, Fold.puts}
+use Rattle.pc_emit.specs.{Giving.GivesNodes, Closing.body_closes}
+use Rattle.pc_emit.proofs.{Walks.inner_gives, Wholes.body_on}
 use Rattle.pc_emit.proofs.bodies.emit_added.Goals as goal
 
 pub returns : goal.returns

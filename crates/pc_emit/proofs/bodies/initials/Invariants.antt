@@ -1,7 +1,6 @@
 use Rattle.std.proofs.Common.{◌≡◌, drop, map}
 use Rattle.pc_tree.specs.View.{field_view}
-use Rattle.pc_body_spec.specs.Bodies.{Roses, initials_then}
-use Rattle.pc_body_spec.specs.Fold.{puts}
+use Rattle.pc_body_spec.specs.{Bodies.{Roses, initials_then}, Fold.puts}
 use Rattle.pc_emit.specs.Closing.{behind_tops}
 use Rattle.pc_emit.proofs.bodies.initials.Given as goal
 

@@ -1,14 +1,9 @@
-use Rattle.std.proofs.Common.{◌≡◌, List, Err, Bool, sym, ap, ◌∙◌, subst}
-use Rattle.std.proofs.lemmas.Result.{err_from_is_err_and}
-use Rattle.pc_tree.specs.declared.expression.Item.{Item}
-use Rattle.pc_tree.specs.View.{items_view}
+use Rattle.std.proofs.{Common.{◌≡◌, List, Err, Bool, sym, ap, ◌∙◌, subst}, lemmas.Result.err_from_is_err_and}
+use Rattle.pc_tree.specs.{declared.expression.Item.Item, View.items_view}
 use Rattle.pc_body_spec.specs.Bodies as spec
-use Rattle.pc_body_spec.specs.Bodies.{roses_of_items, Scope, params_scope}
-use Rattle.pc_body_spec.specs.Fold.{puts}
-use Rattle.pc_emit.specs.Giving.{GivesNodes}
-use Rattle.pc_emit.specs.Closing.{ends_with}
-use Rattle.pc_emit.proofs.Walks.{inner_stops, inner_gives}
-use Rattle.pc_emit.proofs.Wholes.{none_is}
+use Rattle.pc_body_spec.specs.{Bodies.{roses_of_items, Scope, params_scope}, Fold.puts}
+use Rattle.pc_emit.specs.{Giving.GivesNodes, Closing.ends_with}
+use Rattle.pc_emit.proofs.{Walks.{inner_stops, inner_gives}, Wholes.none_is}
 use Rattle.pc_emit.proofs.bodies.own_items.Goals as goal
 
 pub returns-in_err-own : goal.returns-in_err-own

@@ -1,13 +1,9 @@
-use Rattle.std.proofs.Common.{◌≡◌, ◌++◌, map, ap, ◌∙◌, subst}
-use Rattle.std.proofs.lemmas.Result.{err_from_is_err_and}
+use Rattle.std.proofs.{Common.{◌≡◌, ◌++◌, map, ap, ◌∙◌, subst}, lemmas.Result.err_from_is_err_and}
 use Rattle.pc_tree.specs.View.{field_view, items_view}
 use Rattle.pc_body_spec.specs.Bodies as spec
-use Rattle.pc_body_spec.specs.Bodies.{roses_of_items, Roses, params_scope}
-use Rattle.pc_body_spec.specs.Fold.{puts}
-use Rattle.pc_emit.specs.Giving.{GivesNodes}
-use Rattle.pc_emit.specs.Closing.{behind_tops, body_closes}
-use Rattle.pc_emit.proofs.Walks.{inner_stops, inner_gives, seq_parts}
-use Rattle.pc_emit.proofs.Wholes.{body_on}
+use Rattle.pc_body_spec.specs.{Bodies.{roses_of_items, Roses, params_scope}, Fold.puts}
+use Rattle.pc_emit.specs.{Giving.GivesNodes, Closing.{behind_tops, body_closes}}
+use Rattle.pc_emit.proofs.{Walks.{inner_stops, inner_gives, seq_parts}, Wholes.body_on}
 use Rattle.pc_emit.proofs.bodies.written.Goals as goal
 
 pub returns-in_err-own : goal.returns-in_err-own

@@ -1,8 +1,7 @@
 use Rattle.std.proofs.Common.{◌<◌, ◌-◌, length, arith, ap, ◌∙◌, map}
 use Rattle.pc_tree.specs.View.{suffix_view}
 use Rattle.pc_tree.proofs.Views.{view_dot, view_args}
-use Rattle.pc_emit.proofs.Walks.{at_view}
-use Rattle.pc_emit.proofs.Suffixes.{before_none, before_dot, before_args}
+use Rattle.pc_emit.proofs.{Walks.at_view, Suffixes.{before_none, before_dot, before_args}}
 use Rattle.pc_emit.proofs.chains.cut_args.Goals as goal
 
 pub returns-in-Dot-clause-cut : goal.returns-in-Dot-clause-cut

@@ -1,5 +1,4 @@
-use Rattle.std.proofs.Common.{refl, ◌∙◌}
-use Rattle.std.proofs.lemmas.Option.{slice_get_read}
+use Rattle.std.proofs.{Common.{refl, ◌∙◌}, lemmas.Option.slice_get_read}
 use Rattle.pc_emit.specs.Closing.{is_args}
 use Rattle.pc_emit.proofs.Suffixes.{tested_some, tested_none, past_none}
 use Rattle.pc_emit.proofs.chains.has_args.Goals as goal

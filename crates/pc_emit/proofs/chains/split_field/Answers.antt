@@ -1,9 +1,7 @@
-use Rattle.std.proofs.Common.{◌<◌, ◌-◌, ℕ, length, arith, sym, ap, ◌∙◌, map}
+use Rattle.std.proofs.{Common.{◌<◌, ◌-◌, ℕ, length, arith, sym, ap, ◌∙◌, map}, lemmas.List.length-map}
 use Rattle.pc_tree.specs.View.{suffix_view}
 use Rattle.pc_tree.proofs.Views.{view_dot, view_args}
-use Rattle.std.proofs.lemmas.List.{length-map}
-use Rattle.pc_emit.proofs.Walks.{at_view}
-use Rattle.pc_emit.proofs.Suffixes.{split_none, split_dot, split_args}
+use Rattle.pc_emit.proofs.{Walks.at_view, Suffixes.{split_none, split_dot, split_args}}
 use Rattle.pc_emit.proofs.chains.split_field.Goals as goal
 
 pub returns-in-Dot-clause-split : goal.returns-in-Dot-clause-split

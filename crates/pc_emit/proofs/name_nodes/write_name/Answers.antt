@@ -1,9 +1,7 @@
-use Rattle.std.proofs.Common.{sym, ap, ◌∙◌, subst}
+use Rattle.std.proofs.{Common.{sym, ap, ◌∙◌, subst}, lemmas.Option.{same_Some, none-some}}
 use Rattle.std.specs.Prelude.{option_map}
-use Rattle.std.proofs.lemmas.Option.{same_Some, none-some}
 use Rattle.pc_resolve.specs.Meanings.{meaning_view}
-use Rattle.pc_emit.specs.Giving.{GivesNodes}
-use Rattle.pc_emit.specs.Closing.{name_closes}
+use Rattle.pc_emit.specs.{Giving.GivesNodes, Closing.name_closes}
 use Rattle.pc_emit.proofs.name_nodes.write_name.Goals as goal
 
 pub returns-in-Some : goal.returns-in-Some

@@ -1,26 +1,17 @@
-use Rattle.std.proofs.Common.{drop, Err, ◌≡◌, ◌≤◌, length, take, map, ℕ, ◌+◌, false, List, [], ◌∷◌, ◌++◌, Some, sym, ap, ◌∙◌, subst, arith, refl}
+use Rattle.std.proofs.{Common.{drop, Err, ◌≡◌, ◌≤◌, length, take, map, ℕ, ◌+◌, false, List, [], ◌∷◌, ◌++◌, Some, sym, ap, ◌∙◌, subst, arith, refl}, lemmas.Result.{err_from_is_err_and, on_ok_weaker}, lemmas.List.{drop_all, append-nil}, lemmas.Option.slice_get_read}
 use Rattle.std.specs.Prelude.{option_map}
-use Rattle.std.proofs.lemmas.Result.{err_from_is_err_and, on_ok_weaker}
-use Rattle.std.proofs.lemmas.List.{drop_all, append-nil}
-use Rattle.std.proofs.lemmas.Option.{slice_get_read}
-use Rattle.pc_caps.specs.declared.span.Span.{Span}
+use Rattle.pc_base.specs.declared.span.Span.{Span}
 use Rattle.pc_tree.proofs.Views.{view_assign, view_args, view_infix, view_not, view_if, view_name, view_while}
 use Rattle.pc_tree.specs.Tree as tree
-use Rattle.pc_tree.specs.declared.expression.Item.{Item}
-use Rattle.pc_tree.specs.View.{expr_view, suffix_view, seq_view, exprs_view, arms_view, item_view, items_view, other_view}
+use Rattle.pc_tree.specs.{declared.expression.Item.Item, View.{expr_view, suffix_view, seq_view, exprs_view, arms_view, item_view, items_view, other_view}}
 use Rattle.pc_resolve.specs.Meanings.{meaning_view}
-use Rattle.pc_body_spec.specs.Bodies.{Visible, resolve, scope_after, leaf, rose, two, three}
+use Rattle.pc_body_spec.specs.{Bodies.{Visible, resolve, scope_after, leaf, rose, two, three}, Fold.{put, puts, push, and_then}}
 use Rattle.pc_body_spec.specs.Bodies as spec
-use Rattle.pc_body_spec.specs.Fold.{put, puts, push, and_then}
 use Rattle.pc_core.specs.declared.nodes.NodeKind.{NodeKind}
 use Rattle.pc_core.specs.declared.nodes.NodeKind.TheVariants as kinds
-use Rattle.pc_emit.specs.declared.waiting.OpenArm.{OpenArm}
-use Rattle.pc_emit.specs.Giving.{GivesNodes}
-use Rattle.pc_emit.specs.Closing.{closing, arm_closes, seq_closes, link_closes, this_closes, names_none, link_of, first_of, begun, begun_by, rest_of, taken, behind_tops, OpensInnerPart, OpensOne, ReadsAtom, reading_rose, is_missing as misses, none_named, target_meaning}
-use Rattle.pc_emit.proofs.Suffixes.{chain_opens, write_opens, begun_first, begun_value, cut_behind}
-use Rattle.pc_emit.proofs.Walks.{arm_parts, seq_parts, sequence_is, inner_stops, inner_gives, links_stop, beginning_stops, begins_with_atom, begins_with_first, chain_stops, write_start, name_written, assign_none, wait_on, arms_from, stops, stops_one, stops_still, operands_none, right_none, push_none, exprs_from, called_is, arm_is, cond_none, body_none, arm_stops, opens_stop, scope_kept, items_from, on_ok}
-use Rattle.pc_lists.proofs.Cuts.{take_whole}
-use Rattle.pc_emit.proofs.Wholes.{behind_more, behind_none}
+use Rattle.pc_emit.specs.{declared.waiting.OpenArm.OpenArm, Giving.GivesNodes, Closing.{closing, arm_closes, seq_closes, link_closes, this_closes, names_none, link_of, first_of, begun, begun_by, rest_of, taken, behind_tops, OpensInnerPart, OpensOne, ReadsAtom, reading_rose, is_missing as misses, none_named, target_meaning}}
+use Rattle.pc_emit.proofs.{Suffixes.{chain_opens, write_opens, begun_first, begun_value, cut_behind}, Walks.{arm_parts, seq_parts, sequence_is, inner_stops, inner_gives, links_stop, beginning_stops, begins_with_atom, begins_with_first, chain_stops, write_start, name_written, assign_none, wait_on, arms_from, stops, stops_one, stops_still, operands_none, right_none, push_none, exprs_from, called_is, arm_is, cond_none, body_none, arm_stops, opens_stop, scope_kept, items_from, on_ok}, Wholes.{behind_more, behind_none}}
+use Rattle.pc_base.proofs.Cuts.{take_whole}
 use Rattle.pc_emit.proofs.walk.+walk.Goals as goal
 
 pub open_arms-loop-a-preserved : goal.open_arms-loop-a-preserved

@@ -1,8 +1,7 @@
 use Rattle.std.proofs.Common.{◌≡◌, ◌≤◌, true, length, drop, take, map}
 use Rattle.pc_tree.specs.View.{suffix_view, items_view, exprs_view, arms_view}
 use Rattle.pc_body_spec.specs.Bodies as spec
-use Rattle.pc_body_spec.specs.Bodies.{Rose}
-use Rattle.pc_body_spec.specs.Fold.{put, puts, and_then}
+use Rattle.pc_body_spec.specs.{Bodies.Rose, Fold.{put, puts, and_then}}
 use Rattle.pc_emit.specs.Closing.{closing, arm_closes, link_closes, rest_of}
 use Rattle.pc_emit.proofs.Walks.{Going, Left}
 use Rattle.pc_emit.proofs.walk.+walk.Given as goal

@@ -1,4 +1,4 @@
-use Rattle.pc_words.proofs.Pushes.{ok_three}
+use Rattle.pc_explain_words.proofs.Pushes.{ok_three}
 use Rattle.pc_explain.specs.Declarations.{missing_hint}
 use Rattle.pc_explain.proofs.declarations.push_add_hint.Goals as goal
 

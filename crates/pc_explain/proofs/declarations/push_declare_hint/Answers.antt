@@ -1,4 +1,4 @@
-use Rattle.pc_sentences.proofs.Pushed.{ok_seven}
+use Rattle.pc_explain_sentences.proofs.Pushed.{ok_seven}
 use Rattle.pc_explain.specs.Declarations.{declare_hint}
 use Rattle.pc_explain.proofs.declarations.push_declare_hint.Goals as goal
 

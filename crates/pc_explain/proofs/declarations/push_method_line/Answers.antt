@@ -1,4 +1,4 @@
-use Rattle.pc_words.proofs.Pushes.{ok_three}
+use Rattle.pc_explain_words.proofs.Pushes.{ok_three}
 use Rattle.pc_explain.specs.Declarations.{method_node_line}
 use Rattle.pc_explain.proofs.declarations.push_method_line.Goals as goal
 

@@ -1,8 +1,6 @@
-use Rattle.std.proofs.Common.{◌≡◌, ◌++◌, ℕ, List, ap, sym, ◌∙◌}
+use Rattle.std.proofs.{Common.{◌≡◌, ◌++◌, ℕ, List, ap, sym, ◌∙◌}, lemmas.List.append-nil}
 use Rattle.std.specs.Prelude.{Option, None, slice_get}
-use Rattle.std.proofs.lemmas.List.{append-nil}
-use Rattle.pc_core.specs.CoreData.{CoreData}
-use Rattle.pc_core.specs.declared.declarations.Method.{Method}
+use Rattle.pc_core.specs.{CoreData.CoreData, declared.declarations.Method.Method}
 use Rattle.pc_explain.specs.Declarations.{method_node_line, mismatch_lines, provided_by, stands_lines, wanted_from, wanted_of}
 use Rattle.pc_explain.proofs.declarations.push_mismatch.Goals as goal
 

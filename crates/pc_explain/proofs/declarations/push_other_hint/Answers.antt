@@ -1,6 +1,6 @@
 use Rattle.std.proofs.Common.{◌++◌, ℕ, List, ap, ◌∙◌}
-use Rattle.pc_window.specs.Quoting.{piece}
-use Rattle.pc_sentences.proofs.Pushed.{ok_five}
+use Rattle.pc_explain_window.specs.Quoting.{piece}
+use Rattle.pc_explain_sentences.proofs.Pushed.{ok_five}
 use Rattle.pc_explain.specs.Declarations.{other_hint}
 use Rattle.pc_explain.proofs.declarations.push_other_hint.Goals as goal
 

@@ -1,9 +1,8 @@
 use Rattle.std.proofs.Common.{◌++◌, ℕ, List, ap, ◌∙◌}
 use Rattle.pc_core.specs.CoreData.{CoreData}
-use Rattle.pc_window.specs.Places.{piece_of}
-use Rattle.pc_window.specs.Quoting.{quoted}
-use Rattle.pc_words.specs.Forms.{place_words}
-use Rattle.pc_sentences.proofs.Pushed.{ok_seven}
+use Rattle.pc_explain_window.specs.{Places.piece_of, Quoting.quoted}
+use Rattle.pc_explain_words.specs.Forms.{place_words}
+use Rattle.pc_explain_sentences.proofs.Pushed.{ok_seven}
 use Rattle.pc_explain.specs.Declarations.{parameter_line}
 use Rattle.pc_explain.proofs.declarations.push_parameter_line.Goals as goal
 

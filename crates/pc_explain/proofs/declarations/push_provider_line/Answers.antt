@@ -1,6 +1,6 @@
 use Rattle.std.proofs.Common.{◌++◌, ℕ, List, ap, ◌∙◌}
-use Rattle.pc_words.specs.Forms.{with_article}
-use Rattle.pc_sentences.proofs.Pushed.{ok_seven}
+use Rattle.pc_explain_words.specs.Forms.{with_article}
+use Rattle.pc_explain_sentences.proofs.Pushed.{ok_seven}
 use Rattle.pc_explain.specs.Declarations.{provider_line}
 use Rattle.pc_explain.proofs.declarations.push_provider_line.Goals as goal
 

@@ -1,5 +1,5 @@
 use Rattle.std.proofs.Common.{◌++◌, ℕ, List, ap, ◌∙◌}
-use Rattle.pc_sentences.proofs.Pushed.{ok_five}
+use Rattle.pc_explain_sentences.proofs.Pushed.{ok_five}
 use Rattle.pc_explain.specs.Declarations.{sendable_line}
 use Rattle.pc_explain.proofs.declarations.push_sendable_line.Goals as goal
 

@@ -1,5 +1,4 @@
-use Rattle.std.proofs.Common.{subst}
-use Rattle.std.proofs.lemmas.Result.{IfOk-weaker}
+use Rattle.std.proofs.{Common.subst, lemmas.Result.IfOk-weaker}
 use Rattle.pc_check.specs.Faults.{RefusesCore}
 use Rattle.pc_explain.proofs.Made.{declaration_made}
 use Rattle.pc_explain.proofs.explaining.explain_core.Goals as goal

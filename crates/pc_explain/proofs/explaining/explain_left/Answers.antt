@@ -1,5 +1,4 @@
-use Rattle.std.proofs.Common.{◌≡◌, ap, sym, ◌∙◌}
-use Rattle.std.proofs.lemmas.Result.{IfOk-weaker}
+use Rattle.std.proofs.{Common.{◌≡◌, ap, sym, ◌∙◌}, lemmas.Result.IfOk-weaker}
 use Rattle.std.specs.Prelude.{slice_get, Some}
 use Rattle.pc_explain.specs.Explanation.{method_body_note, scene_of}
 use Rattle.pc_explain.proofs.Made.{unset_made}

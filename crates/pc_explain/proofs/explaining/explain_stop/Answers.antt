@@ -1,7 +1,6 @@
-use Rattle.std.proofs.Common.{◌≡◌, ap, sym, ◌∙◌}
-use Rattle.std.proofs.lemmas.Result.{IfOk-weaker}
+use Rattle.std.proofs.{Common.{◌≡◌, ap, sym, ◌∙◌}, lemmas.Result.IfOk-weaker}
 use Rattle.std.specs.Prelude.{length, slice_get, Some}
-use Rattle.pc_words.specs.Scene.{SceneData}
+use Rattle.pc_explain_words.specs.Scene.{SceneData}
 use Rattle.pc_explain.specs.Explanation.{scene_of}
 use Rattle.pc_explain.proofs.Made.{node_made}
 use Rattle.pc_explain.proofs.explaining.explain_stop.Goals as goal

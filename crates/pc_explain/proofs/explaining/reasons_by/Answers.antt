@@ -1,8 +1,7 @@
-use Rattle.std.proofs.Common.{ap, sym, ◌∙◌}
-use Rattle.std.proofs.lemmas.Result.{IfOk-weaker}
+use Rattle.std.proofs.{Common.{ap, sym, ◌∙◌}, lemmas.Result.IfOk-weaker}
 use Rattle.std.specs.Prelude.{List, Option}
 use Rattle.pc_ann.specs.declared.annotation.Note.{Note}
-use Rattle.pc_conditions.specs.Failing.{reasons}
+use Rattle.pc_explain_conditions.specs.Failing.{reasons}
 use Rattle.pc_explain.specs.Explanation.{reasons_by}
 use Rattle.pc_explain.proofs.explaining.reasons_by.Goals as goal
 

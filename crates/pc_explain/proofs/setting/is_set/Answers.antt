@@ -1,7 +1,5 @@
-use Rattle.std.proofs.Common.{ap, sym, arith}
-use Rattle.std.specs.Int.{bit_at}
-use Rattle.std.specs.Prelude.{◌≡◌, nat_eq}
-use Rattle.std.proofs.lemmas.Nat.Bits.{bit_at_above}
+use Rattle.std.proofs.{Common.{ap, sym, arith}, lemmas.Nat.Bits.bit_at_above}
+use Rattle.std.specs.{Int.bit_at, Prelude.{◌≡◌, nat_eq}}
 use Rattle.pc_explain.proofs.setting.is_set.Goals as goal
 
 pub returns-in-Err : goal.returns-in-Err

@@ -1,9 +1,7 @@
-use Rattle.std.proofs.Common.{◌++◌, ℕ, List, ap, ◌∙◌}
-use Rattle.std.proofs.lemmas.Result.{on_ok_weaker}
-use Rattle.pc_core.specs.CoreData.{CoreData}
-use Rattle.pc_core.specs.declared.declarations.FieldInfo.{FieldInfo}
+use Rattle.std.proofs.{Common.{◌++◌, ℕ, List, ap, ◌∙◌}, lemmas.Result.on_ok_weaker}
+use Rattle.pc_core.specs.{CoreData.CoreData, declared.declarations.FieldInfo.FieldInfo}
 use Rattle.std.specs.Prelude.{Option}
-use Rattle.pc_words.proofs.Pushes.{ok_three}
+use Rattle.pc_explain_words.proofs.Pushes.{ok_three}
 use Rattle.pc_explain.specs.Setting.{field_lines, set_hint}
 use Rattle.pc_explain.proofs.setting.push_field_lines.Goals as goal
 

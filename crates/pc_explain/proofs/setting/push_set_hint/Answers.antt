@@ -1,4 +1,4 @@
-use Rattle.pc_words.proofs.Pushes.{ok_three}
+use Rattle.pc_explain_words.proofs.Pushes.{ok_three}
 use Rattle.pc_explain.specs.Setting.{set_hint}
 use Rattle.pc_explain.proofs.setting.push_set_hint.Goals as goal
 

@@ -1,9 +1,8 @@
 use Rattle.std.proofs.Common.{◌++◌, ℕ, List, ap, ◌∙◌}
-use Rattle.pc_core.specs.CoreData.{CoreData}
-use Rattle.pc_core.specs.Further.{own_nodes}
-use Rattle.pc_window.specs.Quoting.{quoted}
-use Rattle.pc_words.specs.Forms.{name_text, place_words}
-use Rattle.pc_sentences.proofs.Pushed.{ok_seven}
+use Rattle.pc_core.specs.{CoreData.CoreData, Further.own_nodes}
+use Rattle.pc_explain_window.specs.Quoting.{quoted}
+use Rattle.pc_explain_words.specs.Forms.{name_text, place_words}
+use Rattle.pc_explain_sentences.proofs.Pushed.{ok_seven}
 use Rattle.pc_explain.specs.Setting.{unset_part, write_places, writes_of}
 use Rattle.pc_explain.proofs.setting.push_unset_part.Goals as goal
 

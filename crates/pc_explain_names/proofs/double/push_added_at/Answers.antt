@@ -1,9 +1,8 @@
 use Rattle.std.proofs.Common.{◌++◌, codes, ap, ◌∙◌}
-use Rattle.pc_lists.specs.Lists.{line_end}
+use Rattle.pc_base.specs.Lists.{line_end}
 use Rattle.pc_tree.specs.View.{entity_view}
-use Rattle.pc_window.proofs.Appends.{ok_after}
-use Rattle.pc_window.specs.Places.{line_and_column}
-use Rattle.pc_window.specs.Quoting.{piece}
+use Rattle.pc_explain_window.proofs.Appends.{ok_after}
+use Rattle.pc_explain_window.specs.{Places.line_and_column, Quoting.piece}
 use Rattle.pc_explain_names.specs.NameLines.{added_at}
 use Rattle.pc_explain_names.proofs.double.push_added_at.Goals as goal
 

@@ -1,8 +1,7 @@
 use Rattle.std.proofs.Common.{◌++◌, codes, ap, ◌∙◌}
 use Rattle.pc_tree.specs.View.{entity_view}
-use Rattle.pc_window.proofs.Appends.{ok_after}
-use Rattle.pc_explain_names.specs.Bearers.{word}
-use Rattle.pc_explain_names.specs.NameLines.{added_at, added_line}
+use Rattle.pc_explain_window.proofs.Appends.{ok_after}
+use Rattle.pc_explain_names.specs.{Bearers.word, NameLines.{added_at, added_line}}
 use Rattle.pc_explain_names.proofs.double.push_added_line.Goals as goal
 
 pub returns : goal.returns

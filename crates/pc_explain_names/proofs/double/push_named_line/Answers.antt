@@ -1,8 +1,7 @@
 use Rattle.std.proofs.Common.{◌++◌, codes, ap, ◌∙◌}
-use Rattle.pc_window.proofs.Appends.{ok_after}
-use Rattle.pc_window.specs.Quoting.{quoted}
-use Rattle.pc_explain_names.specs.Bearers.{word}
-use Rattle.pc_explain_names.specs.NameLines.{named_line, stands_at}
+use Rattle.pc_explain_window.proofs.Appends.{ok_after}
+use Rattle.pc_explain_window.specs.Quoting.{quoted}
+use Rattle.pc_explain_names.specs.{Bearers.word, NameLines.{named_line, stands_at}}
 use Rattle.pc_explain_names.proofs.double.push_named_line.Goals as goal
 
 pub returns : goal.returns

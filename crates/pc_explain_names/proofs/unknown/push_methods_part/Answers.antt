@@ -1,9 +1,8 @@
 use Rattle.std.proofs.Common.{◌++◌, codes}
-use Rattle.pc_lists.specs.Lists.{line_end}
+use Rattle.pc_base.specs.Lists.{line_end}
 use Rattle.pc_members.specs.Views.{members_view}
-use Rattle.pc_window.proofs.Appends.{ok_after}
-use Rattle.pc_explain_names.specs.Rows.{member_names}
-use Rattle.pc_explain_names.specs.NameLines.{methods_part}
+use Rattle.pc_explain_window.proofs.Appends.{ok_after}
+use Rattle.pc_explain_names.specs.{Rows.member_names, NameLines.methods_part}
 use Rattle.pc_explain_names.proofs.unknown.push_methods_part.Goals as goal
 
 pub returns : goal.returns

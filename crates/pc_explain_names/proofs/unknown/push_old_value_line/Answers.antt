@@ -1,7 +1,7 @@
 use Rattle.std.proofs.Common.{◌++◌, codes}
-use Rattle.pc_lists.specs.Lists.{line_end}
-use Rattle.pc_window.proofs.Appends.{ok_after}
-use Rattle.pc_window.specs.Quoting.{piece}
+use Rattle.pc_base.specs.Lists.{line_end}
+use Rattle.pc_explain_window.proofs.Appends.{ok_after}
+use Rattle.pc_explain_window.specs.Quoting.{piece}
 use Rattle.pc_explain_names.specs.NameLines.{old_value_line}
 use Rattle.pc_explain_names.proofs.unknown.push_old_value_line.Goals as goal
 

@@ -1,12 +1,9 @@
 use Rattle.std.proofs.Common.{◌-◌, drop}
-use Rattle.pc_tree.specs.View.{expr_view}
-use Rattle.pc_tree.specs.Depths.{depth}
+use Rattle.pc_tree.specs.{View.expr_view, Depths.depth}
 use Rattle.pc_grammar.specs.Spells.{Spells}
 use Rattle.pc_grammar.specs.Reading as reading
-use Rattle.pc_grammar.proofs.Right.{expr_reads, expr_refuses, expr_deep}
-use Rattle.pc_grammar.proofs.OneAnswer.{expr_answer}
-use Rattle.pc_expr.proofs.Public.{is_at, refused}
-use Rattle.pc_expr.proofs.Exact.{exact_tree, exact_fault}
+use Rattle.pc_grammar.proofs.{Right.{expr_reads, expr_refuses, expr_deep}, OneAnswer.expr_answer}
+use Rattle.pc_expr.proofs.{Public.{is_at, refused}, Exact.{exact_tree, exact_fault}}
 use Rattle.pc_expr.proofs.parsing.expr.Goals as goal
 
 pub expr-requires : goal.expr-requires

@@ -1,12 +1,9 @@
 use Rattle.std.proofs.Common.{◌-◌, drop}
-use Rattle.pc_tree.specs.View.{expr_view}
-use Rattle.pc_tree.specs.Depths.{depth}
+use Rattle.pc_tree.specs.{View.expr_view, Depths.depth}
 use Rattle.pc_grammar.specs.Spells.{SpellsInfix}
 use Rattle.pc_grammar.specs.Reading as reading
-use Rattle.pc_grammar.proofs.Right.{infix_reads, infix_refuses, infix_deep}
-use Rattle.pc_grammar.proofs.OneAnswer.{infix_answer}
-use Rattle.pc_expr.proofs.Public.{is_at, refused}
-use Rattle.pc_expr.proofs.Exact.{exact_tree, exact_fault}
+use Rattle.pc_grammar.proofs.{Right.{infix_reads, infix_refuses, infix_deep}, OneAnswer.infix_answer}
+use Rattle.pc_expr.proofs.{Public.{is_at, refused}, Exact.{exact_tree, exact_fault}}
 use Rattle.pc_expr.proofs.parsing.infix.Goals as goal
 
 pub infix-requires : goal.infix-requires

@@ -1,12 +1,9 @@
 use Rattle.std.proofs.Common.{◌-◌, drop}
-use Rattle.pc_tree.specs.View.{seq_view}
-use Rattle.pc_tree.specs.Depths.{seq_depth}
+use Rattle.pc_tree.specs.{View.seq_view, Depths.seq_depth}
 use Rattle.pc_grammar.specs.Spells.{SpellsSeq}
 use Rattle.pc_grammar.specs.Reading as reading
-use Rattle.pc_grammar.proofs.Right.{seq_reads, seq_refuses, seq_deep}
-use Rattle.pc_grammar.proofs.OneAnswer.{seq_answer}
-use Rattle.pc_expr.proofs.Public.{is_at, refused}
-use Rattle.pc_expr.proofs.Exact.{exact_tree, exact_fault}
+use Rattle.pc_grammar.proofs.{Right.{seq_reads, seq_refuses, seq_deep}, OneAnswer.seq_answer}
+use Rattle.pc_expr.proofs.{Public.{is_at, refused}, Exact.{exact_tree, exact_fault}}
 use Rattle.pc_expr.proofs.parsing.seq.Goals as goal
 
 pub seq-requires : goal.seq-requires

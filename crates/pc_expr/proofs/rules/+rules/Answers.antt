@@ -1,7 +1,5 @@
-use Rattle.std.proofs.Common.{◌≡◌, true, false, Ok, refl, inl, inr, ◌<◌, ◌≤◌, [], ◌∷◌, ◌++◌, length, drop, map, sym, ap, ◌∙◌, arith, length-drop}
-use Rattle.std.proofs.lemmas.List.{map_push}
-use Rattle.std.proofs.lemmas.Result.{err_from_is_err_and}
-use Rattle.pc_tree.specs.View.{expr_view, item_view, suffix_view, arm_view, seq_view}
+use Rattle.std.proofs.{Common.{◌≡◌, true, false, Ok, refl, inl, inr, ◌<◌, ◌≤◌, [], ◌∷◌, ◌++◌, length, drop, map, sym, ap, ◌∙◌, arith, length-drop}, lemmas.List.map_push, lemmas.Result.err_from_is_err_and}
+use Rattle.pc_tree.specs.{View.{expr_view, item_view, suffix_view, arm_view, seq_view}, Parts.{exprs_of, seq_span}}
 use Rattle.pc_tree.specs.Tree as tree
 use Rattle.pc_tree.proofs.Views.{view_arm}
 use Rattle.pc_token.specs.declared.signs.Sign.TheVariants as sign
@@ -9,10 +7,8 @@ use Rattle.pc_token.specs.Words.{is_sign}
 use Rattle.pc_grammar.specs.Spells as spells
 use Rattle.pc_grammar.specs.Reading as reading
 use Rattle.pc_expr.specs.Onto.{some_args}
-use Rattle.pc_expr.proofs.Parts.{seq_spans, arm_made, stops_first, reads_becomes, gives_made, args_by_parts, not_closed}
-use Rattle.pc_expr.proofs.Loops.{loop_starts, loop_goes_on, loop_ends, stops_here, turn_reads, turn_stops}
+use Rattle.pc_expr.proofs.{Parts.{seq_spans, arm_made, stops_first, reads_becomes, gives_made, args_by_parts, not_closed}, Loops.{loop_starts, loop_goes_on, loop_ends, stops_here, turn_reads, turn_stops}}
 use Rattle.pc_expr.proofs.rules.+rules.Goals as goal
-use Rattle.pc_tree.specs.Parts.{exprs_of, seq_span}
 
 pub some_args-more-init : goal.some_args-more-init
 unfolding some_args

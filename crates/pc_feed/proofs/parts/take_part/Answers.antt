@@ -1,5 +1,4 @@
-use Rattle.std.proofs.Common.{ℕ, List, length, refl, ap, sym, subst, ◌∙◌}
-use Rattle.std.proofs.lemmas.Result.{err_from_is_err_and}
+use Rattle.std.proofs.{Common.{ℕ, List, length, refl, ap, sym, subst, ◌∙◌}, lemmas.Result.err_from_is_err_and}
 use Rattle.pc_feed.specs.Parts.{IsPartAt}
 use Rattle.pc_feed.proofs.FileParts.{part_stopped, too_long, not_past, size_of}
 use Rattle.pc_feed.proofs.parts.take_part.Goals as goal

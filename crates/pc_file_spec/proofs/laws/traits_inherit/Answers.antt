@@ -1,5 +1,4 @@
-use Rattle.pc_file_spec.proofs.Bounds.{traits_inherit, bound_is_enough}
-use Rattle.pc_file_spec.proofs.Formation.{differ_in_entities}
+use Rattle.pc_file_spec.proofs.{Bounds.{traits_inherit, bound_is_enough}, Formation.differ_in_entities}
 use Rattle.pc_file_spec.proofs.laws.traits_inherit.Goals as goal
 
 pub returns : goal.returns

@@ -1,5 +1,4 @@
-use Rattle.std.proofs.Common.{[], ◌∷◌, map, ap, ◌∙◌}
-use Rattle.std.proofs.lemmas.List.{map-append}
+use Rattle.std.proofs.{Common.{[], ◌∷◌, map, ap, ◌∙◌}, lemmas.List.map-append}
 use Rattle.pc_tree.specs.View.{entity_view}
 use Rattle.pc_gen.proofs.Workers.{two_draws, drawn, one_more}
 use Rattle.pc_gen.proofs.program.push_workers.Goals as goal

@@ -1,6 +1,5 @@
 use Rattle.std.proofs.Common.{rules, ◌≡◌, ◌≤◌, ◌∙◌, List, sym, subst}
-use Rattle.pc_sched.specs.Schedules.{turn_limit, total}
-use Rattle.pc_sched.specs.declared.turns.Turn.{Turn}
+use Rattle.pc_sched.specs.{Schedules.{turn_limit, total}, declared.turns.Turn.Turn}
 use Rattle.pc_gen.specs.Generated.{schedule}
 use Rattle.pc_gen.proofs.Turns.{few, one_more}
 use Rattle.pc_gen.proofs.schedule.schedule_of.Goals as goal

@@ -1,5 +1,4 @@
-use Rattle.pc_grammar.proofs.Right.{expr_reads, expr_refuses, expr_deep, expr_one}
-use Rattle.pc_grammar.proofs.OneAnswer.{expr_answer}
+use Rattle.pc_grammar.proofs.{Right.{expr_reads, expr_refuses, expr_deep, expr_one}, OneAnswer.expr_answer}
 use Rattle.pc_grammar.proofs.laws.expressions_are_read.Goals as goal
 
 pub returns : goal.returns

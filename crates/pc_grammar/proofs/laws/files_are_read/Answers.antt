@@ -1,5 +1,4 @@
-use Rattle.pc_grammar.proofs.FileRight.{file_is_read, file_is_refused, file_is_too_deep, file_is_one}
-use Rattle.pc_grammar.proofs.FileAnswers.{file_is_answered, one_file_answer}
+use Rattle.pc_grammar.proofs.{FileRight.{file_is_read, file_is_refused, file_is_too_deep, file_is_one}, FileAnswers.{file_is_answered, one_file_answer}}
 use Rattle.pc_grammar.proofs.laws.files_are_read.Goals as goal
 
 pub returns : goal.returns

@@ -1,5 +1,4 @@
-use Rattle.pc_grammar.proofs.Right.{infix_reads, infix_refuses, infix_deep}
-use Rattle.pc_grammar.proofs.OneAnswer.{infix_answer}
+use Rattle.pc_grammar.proofs.{Right.{infix_reads, infix_refuses, infix_deep}, OneAnswer.infix_answer}
 use Rattle.pc_grammar.proofs.laws.infixes_are_read.Goals as goal
 
 pub returns : goal.returns

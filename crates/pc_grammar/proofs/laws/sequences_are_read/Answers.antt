@@ -1,5 +1,4 @@
-use Rattle.pc_grammar.proofs.Right.{seq_reads, seq_refuses, seq_deep, seq_one}
-use Rattle.pc_grammar.proofs.OneAnswer.{seq_answer}
+use Rattle.pc_grammar.proofs.{Right.{seq_reads, seq_refuses, seq_deep, seq_one}, OneAnswer.seq_answer}
 use Rattle.pc_grammar.proofs.laws.sequences_are_read.Goals as goal
 
 pub returns : goal.returns

@@ -1,6 +1,5 @@
 use Rattle.std.proofs.Common.{◌≡◌, ◌++◌, length}
-use Rattle.std.specs.List.{concat}
-use Rattle.std.specs.Str.{bytes_eq}
+use Rattle.std.specs.{List.concat, Str.bytes_eq}
 use Rattle.pc_heap.proofs.pieces.are_equal.Given as goal
 
 abbrev pub invariant-rest : goal.invariant-rest

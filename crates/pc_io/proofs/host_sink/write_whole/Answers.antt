@@ -1,9 +1,6 @@
-use Rattle.std.proofs.Common.{arith}
-use Rattle.std.proofs.lemmas.Grind.{common_steps}
-use Rattle.pc_io.proofs.Progress.{further}
-use Rattle.std.proofs.KnownBytes.{Appends-kept}
+use Rattle.std.proofs.{Common.arith, lemmas.Grind.common_steps, KnownBytes.Appends-kept}
+use Rattle.pc_io.proofs.{Progress.further, host_sink.write_whole.Goals.{in-Ok, in-Err+else-ne}}
 use Rattle.pc_io.proofs.host_sink.write_whole.Goals as goal
-use Rattle.pc_io.proofs.host_sink.write_whole.Goals.{in-Ok, in-Err+else-ne}
 
 pub loop-preserved : goal.loop-preserved
 loop-preserved g c = elim c.match-write.branch [

@@ -1,6 +1,5 @@
-use Rattle.std.proofs.Common.{◌+◌, ap}
+use Rattle.std.proofs.{Common.{◌+◌, ap}, lemmas.Bool.both_ways}
 use Rattle.pc_judge.proofs.Kept.{first_wrong, kept_next, kept_all}
-use Rattle.std.proofs.lemmas.Bool.{both_ways}
 use Rattle.pc_judge.proofs.slots.wrong_slot.Goals as goal
 
 pub returns-then-not-keeps_type : goal.returns-then-not-keeps_type

@@ -1,5 +1,4 @@
-use Rattle.pc_lex.proofs.OneFault.{fault_one}
-use Rattle.pc_lex.proofs.Together.{told, never_both, no_list}
+use Rattle.pc_lex.proofs.{OneFault.fault_one, Together.{told, never_both, no_list}}
 use Rattle.pc_lex.proofs.laws.faults_are_told.Goals as goal
 
 pub returns : goal.returns

@@ -1,8 +1,6 @@
-use Rattle.std.proofs.Common.{◌≤◌, ◌+◌, length, subst, sym, ◌∙◌, arith, length-append}
-use Rattle.std.proofs.lemmas.Result.{err_from_is_err_and}
+use Rattle.std.proofs.{Common.{◌≤◌, ◌+◌, length, subst, sym, ◌∙◌, arith, length-append}, lemmas.Result.err_from_is_err_and}
 use Rattle.pc_lex.specs.Pieces.{token_limit, Tokens}
-use Rattle.pc_lex.proofs.Blanks.{passes_on}
-use Rattle.pc_lex.proofs.Reached.{goes_on, nearer, ends_so, stuck_so}
+use Rattle.pc_lex.proofs.{Blanks.passes_on, Reached.{goes_on, nearer, ends_so, stuck_so}}
 use Rattle.pc_lex.proofs.lexing.read_all.Goals as goal
 
 pub returns-in_err-end-clause-err : goal.returns-in_err-end-clause-err

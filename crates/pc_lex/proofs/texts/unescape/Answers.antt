@@ -1,7 +1,5 @@
-use Rattle.std.proofs.Common.{◌+◌, take, drop, ◌∙◌, ap, subst, sym, arith, length-drop}
-use Rattle.std.proofs.lemmas.List.{take_rest}
-use Rattle.pc_lex.specs.Pieces.{Written}
-use Rattle.pc_lex.specs.TextReading.{byte_at}
+use Rattle.std.proofs.{Common.{◌+◌, take, drop, ◌∙◌, ap, subst, sym, arith, length-drop}, lemmas.List.take_rest}
+use Rattle.pc_lex.specs.{Pieces.Written, TextReading.byte_at}
 use Rattle.pc_lex.proofs.TextValues.{byte_none, written_on}
 use Rattle.pc_lex.proofs.texts.unescape.Goals as goal
 

@@ -1,13 +1,9 @@
 use Rattle.std.proofs.Common.{◌≡◌, ℕ, get_or, refl, sym, ap, ◌∙◌, subst, arith, length}
 use Rattle.pc_core.specs.CoreData.{CoreData}
-use Rattle.pc_semantics.specs.declared.outcome.Outcome.{Outcome}
+use Rattle.pc_semantics.specs.{declared.outcome.Outcome.Outcome, Configurations.Configuration, Step.step}
 use Rattle.pc_semantics.specs.declared.outcome.Outcome.TheVariants as outcome
-use Rattle.pc_semantics.specs.Configurations.{Configuration}
-use Rattle.pc_semantics.specs.Step.{step}
-use Rattle.pc_list_steps.proofs.Underway.{Underway}
-use Rattle.pc_list_steps.proofs.Stepping.{begins, is_behind, is_ended, moved, skipped, too_long_end, too_long_behind, never}
+use Rattle.pc_list_steps.proofs.{Underway.Underway, Stepping.{begins, is_behind, is_ended, moved, skipped, too_long_end, too_long_behind, never}, steps.take_steps.Goals.{in-Moved, in-Skipped}}
 use Rattle.pc_list_steps.proofs.steps.take_steps.Goals as goal
-use Rattle.pc_list_steps.proofs.steps.take_steps.Goals.{in-Moved, in-Skipped}
 
 pub loop-at-init : goal.loop-at-init
 loop-at-init c = record { underway = begins c.args.machine.core c.args.actors.now c.args.machine.configuration c.requires.started; core = refl }

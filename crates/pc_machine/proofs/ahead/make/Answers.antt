@@ -2,10 +2,7 @@ use Rattle.std.proofs.Common.{◌≡◌, ℕ, List, [], Option, Some, length, dr
 use Rattle.std.specs.Prelude.{slice_get}
 use Rattle.pc_heap.specs.declared.value.Value.{Value}
 use Rattle.pc_core.specs.declared.nodes.NodeKind.{NodeKind}
-use Rattle.pc_semantics.specs.Ahead.{by_move}
-use Rattle.pc_semantics.specs.Calls.{make_task}
-use Rattle.pc_semantics.specs.Configurations.{popped, with_stack}
-use Rattle.pc_semantics.specs.Parts.{make_of, with_popped}
+use Rattle.pc_semantics.specs.{Ahead.by_move, Calls.make_task, Configurations.{popped, with_stack}, Parts.{make_of, with_popped}}
 use Rattle.pc_tasks.specs.Inside.{relieved}
 use Rattle.pc_machine.proofs.ahead.make.Goals as goal
 

@@ -1,5 +1,4 @@
-use Rattle.std.proofs.Common.{◌<◌, length, sym, inl, inr, ◌∙◌, refl}
-use Rattle.std.proofs.lemmas.Bool.{cases_lt, true≢false}
+use Rattle.std.proofs.{Common.{◌<◌, length, sym, inl, inr, ◌∙◌, refl}, lemmas.Bool.{cases_lt, true≢false}}
 use Rattle.pc_machine.proofs.Popped.{below_is, below_short}
 use Rattle.pc_machine.proofs.arguments.arguments_below.Goals as goal
 

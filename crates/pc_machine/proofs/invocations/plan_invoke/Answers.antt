@@ -2,8 +2,7 @@ use Rattle.std.proofs.Common.{◌≡◌, ℕ, ◌-◌, ◌+◌, List, [], Option
 use Rattle.std.specs.Prelude.{Result, Ok, Err, IfOk}
 use Rattle.pc_heap.specs.declared.value.Value.{Value}
 use Rattle.pc_core.specs.declared.nodes.NodeKind.{NodeKind}
-use Rattle.pc_semantics.specs.Calls.{invoke_task}
-use Rattle.pc_semantics.specs.Configurations.{popped}
+use Rattle.pc_semantics.specs.{Calls.invoke_task, Configurations.popped}
 use Rattle.pc_tasks.specs.Inside.{amid, relieved}
 use Rattle.pc_machine.proofs.Popped.{invokes}
 use Rattle.pc_machine.proofs.invocations.plan_invoke.Goals as goal

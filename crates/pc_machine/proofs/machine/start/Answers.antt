@@ -1,7 +1,6 @@
 use Rattle.std.proofs.Common.{sym, subst}
 use Rattle.pc_machine.specs.States.{IsSound}
-use Rattle.pc_machine.proofs.Entitled.{start_fielded}
-use Rattle.pc_machine.proofs.Starting.{start_peopled}
+use Rattle.pc_machine.proofs.{Entitled.start_fielded, Starting.start_peopled}
 use Rattle.pc_machine.proofs.machine.start.Goals as goal
 
 pub invariant_of-result : goal.invariant_of-result

@@ -1,6 +1,5 @@
 use Rattle.std.proofs.Common.{◌∙◌, ap}
-use Rattle.pc_machine.specs.Changed.{framed, frames_of}
-use Rattle.pc_machine.specs.Plans.{frames_changed}
+use Rattle.pc_machine.specs.{Changed.{framed, frames_of}, Plans.frames_changed}
 use Rattle.pc_machine.proofs.Changes.{is_there, still_there, swapped, swapped_back}
 use Rattle.pc_machine.proofs.moves.change_actor.Goals as goal
 

@@ -1,12 +1,7 @@
 use Rattle.std.proofs.Common.{◌≡◌, ◌∙◌, ap, Option}
-use Rattle.std.specs.Prelude.{List}
-use Rattle.std.specs.FinMap.{insert}
-use Rattle.pc_heap.specs.Objects.{ObjectMap, new_object, next_address}
-use Rattle.pc_heap.specs.declared.value.Value.{Value}
-use Rattle.pc_semantics.specs.declared.frames.Frame.{Frame}
-use Rattle.pc_semantics.specs.declared.outcome.Outcome.{Outcome}
-use Rattle.pc_semantics.specs.declared.outcome.Outcome.TheVariants.{Moved}
-use Rattle.pc_semantics.specs.Configurations.{Configuration}
+use Rattle.std.specs.{Prelude.List, FinMap.insert}
+use Rattle.pc_heap.specs.{Objects.{ObjectMap, new_object, next_address}, declared.value.Value.Value}
+use Rattle.pc_semantics.specs.{declared.frames.Frame.Frame, declared.outcome.Outcome.Outcome, declared.outcome.Outcome.TheVariants.Moved, Configurations.Configuration}
 use Rattle.pc_machine.specs.States.{configuration_of}
 use Rattle.pc_machine.proofs.Planned.{amended, made_object}
 use Rattle.pc_machine.proofs.moves.make.Goals as goal

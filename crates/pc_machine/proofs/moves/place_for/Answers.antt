@@ -1,6 +1,5 @@
 use Rattle.std.proofs.Common.{◌∙◌, ap}
-use Rattle.pc_machine.specs.Changed.{framed, frames_of}
-use Rattle.pc_machine.specs.Plans.{given}
+use Rattle.pc_machine.specs.{Changed.{framed, frames_of}, Plans.given}
 use Rattle.pc_machine.proofs.Changes.{is_there, still_there, swapped}
 use Rattle.pc_machine.proofs.moves.place_for.Goals as goal
 

@@ -1,13 +1,9 @@
 use Rattle.std.proofs.Common.{◌≡◌, ◌<◌, ◌≤◌, ◌∙◌, ap, sym, length, subst}
 use Rattle.std.specs.Prelude.{List, IfSome, slice_get}
-use Rattle.pc_semantics.specs.declared.actors.Actor.{Actor}
-use Rattle.pc_semantics.specs.declared.frames.Frame.{Frame}
-use Rattle.pc_machine.specs.Changed.{frames_of}
-use Rattle.pc_machine.specs.States.{configuration_of}
-use Rattle.pc_machine.proofs.Changes.{frames_mailed}
-use Rattle.pc_machine.proofs.Planned.{sent}
+use Rattle.pc_semantics.specs.{declared.actors.Actor.Actor, declared.frames.Frame.Frame}
+use Rattle.pc_machine.specs.{Changed.frames_of, States.configuration_of}
+use Rattle.pc_machine.proofs.{Changes.frames_mailed, Planned.sent, moves.send.Goals.In_ok-deliver}
 use Rattle.pc_machine.proofs.moves.send.Goals as goal
-use Rattle.pc_machine.proofs.moves.send.Goals.{In_ok-deliver}
 
 -- the frames of the actor stay
 same_frames : (c : In_ok-deliver) → frames_of c.deliver.new.self c.args.actor ≡ frames_of c.args.state.now.actors c.args.actor

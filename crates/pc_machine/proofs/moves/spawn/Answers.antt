@@ -1,15 +1,9 @@
 use Rattle.std.proofs.Common.{◌≡◌, ◌∙◌, ap, sym, length}
-use Rattle.std.specs.Prelude.{[], ◌∷◌, ◌++◌}
-use Rattle.std.specs.FinMap.{insert}
-use Rattle.pc_heap.specs.Objects.{ObjectMap, new_object, next_address}
-use Rattle.pc_heap.specs.declared.value.Address.{Address}
-use Rattle.pc_semantics.specs.declared.actors.Actor.{Actor}
-use Rattle.pc_semantics.specs.declared.outcome.Outcome.{Outcome}
-use Rattle.pc_semantics.specs.declared.outcome.Outcome.TheVariants.{Moved}
-use Rattle.pc_semantics.specs.Configurations.{Configuration, own_address}
+use Rattle.std.specs.{Prelude.{[], ◌∷◌, ◌++◌}, FinMap.insert}
+use Rattle.pc_heap.specs.{Objects.{ObjectMap, new_object, next_address}, declared.value.Address.Address}
+use Rattle.pc_semantics.specs.{declared.actors.Actor.Actor, declared.outcome.Outcome.Outcome, declared.outcome.Outcome.TheVariants.Moved, Configurations.{Configuration, own_address}}
 use Rattle.pc_machine.specs.States.{configuration_of}
-use Rattle.pc_machine.proofs.Peopling.{next_own}
-use Rattle.pc_machine.proofs.Planned.{amended, spawned}
+use Rattle.pc_machine.proofs.{Peopling.next_own, Planned.{amended, spawned}}
 use Rattle.pc_machine.proofs.moves.spawn.Goals as goal
 
 pub returns-in-Ok-clause-ok : goal.returns-in-Ok-clause-ok

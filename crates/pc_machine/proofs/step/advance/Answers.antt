@@ -3,8 +3,7 @@ use Rattle.std.specs.Prelude.{Option, IsSomeAnd, slice_get}
 use Rattle.pc_semantics.specs.declared.actors.Actor.{Actor}
 use Rattle.pc_tasks.specs.Inside.{amid}
 use Rattle.pc_machine.specs.Plans.{ReachesActor}
-use Rattle.pc_machine.proofs.Allowed.{reached}
-use Rattle.pc_machine.proofs.Stepped.{none_first}
+use Rattle.pc_machine.proofs.{Allowed.reached, Stepped.none_first}
 use Rattle.pc_machine.proofs.step.advance.Goals as goal
 
 pub take-requires : goal.take-requires

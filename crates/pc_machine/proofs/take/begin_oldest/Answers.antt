@@ -1,12 +1,9 @@
 use Rattle.std.proofs.Common.{◌≡◌, ◌∙◌, [], ap, sym, subst}
 use Rattle.std.specs.Prelude.{List, ◌∷◌, Option, IsSomeAnd}
-use Rattle.pc_semantics.specs.declared.frames.Frame.{Frame}
-use Rattle.pc_semantics.specs.declared.actors.Actor.{Actor}
-use Rattle.pc_lists.proofs.Gets.{get_below}
-use Rattle.pc_machine.specs.Changed.{unmailed}
-use Rattle.pc_machine.specs.States.{configuration_of}
-use Rattle.pc_machine.proofs.Changes.{still_there}
-use Rattle.pc_machine.proofs.Stepped.{begin_step}
+use Rattle.pc_semantics.specs.{declared.frames.Frame.Frame, declared.actors.Actor.Actor}
+use Rattle.pc_base.proofs.Gets.{get_below}
+use Rattle.pc_machine.specs.{Changed.unmailed, States.configuration_of}
+use Rattle.pc_machine.proofs.{Changes.still_there, Stepped.begin_step}
 use Rattle.pc_machine.proofs.take.begin_oldest.Goals as goal
 
 pub swap_frames-requires : goal.swap_frames-requires

@@ -1,7 +1,5 @@
-use Rattle.std.proofs.Common.{arith}
-use Rattle.std.proofs.lemmas.List.{at_drop_all}
-use Rattle.pc_tree.specs.Depths.{items_depth, exprs_depth, suffixes_depth, arms_depth}
-use Rattle.pc_tree.specs.View.{items_view, exprs_view, suffixes_view, arms_view}
+use Rattle.std.proofs.{Common.arith, lemmas.List.at_drop_all}
+use Rattle.pc_tree.specs.{Depths.{items_depth, exprs_depth, suffixes_depth, arms_depth}, View.{items_view, exprs_view, suffixes_view, arms_view}}
 use Rattle.pc_measure.proofs.level.+depth.Goals as goal
 
 pub of_items-returns : goal.of_items-returns

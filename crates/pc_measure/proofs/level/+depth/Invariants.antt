@@ -1,6 +1,5 @@
 use Rattle.std.proofs.Common.{◌≡◌, max, min, ◌-◌, ◌^◌, ◌≤◌, drop}
-use Rattle.pc_tree.specs.Depths.{items_depth, exprs_depth, suffixes_depth, arms_depth}
-use Rattle.pc_tree.specs.View.{items_view, exprs_view, suffixes_view, arms_view}
+use Rattle.pc_tree.specs.{Depths.{items_depth, exprs_depth, suffixes_depth, arms_depth}, View.{items_view, exprs_view, suffixes_view, arms_view}}
 use Rattle.pc_measure.proofs.level.+depth.Given as goal
 
 abbrev pub invariant-of_items-loop-x : goal.invariant-of_items-loop-x

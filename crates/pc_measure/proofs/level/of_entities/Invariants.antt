@@ -1,6 +1,5 @@
 use Rattle.std.proofs.Common.{◌≡◌, max, min, ◌-◌, ◌^◌, ◌≤◌, drop, map}
-use Rattle.pc_tree.specs.Levels.{entities_depth}
-use Rattle.pc_tree.specs.View.{entity_view}
+use Rattle.pc_tree.specs.{Levels.entities_depth, View.entity_view}
 use Rattle.pc_measure.proofs.level.of_entities.Given as goal
 
 abbrev pub invariant-loop-x : goal.invariant-loop-x

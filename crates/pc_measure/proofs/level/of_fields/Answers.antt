@@ -1,7 +1,5 @@
-use Rattle.std.proofs.Common.{arith, map}
-use Rattle.std.proofs.lemmas.List.{at_drop_all}
-use Rattle.pc_tree.specs.Levels.{fields_depth}
-use Rattle.pc_tree.specs.View.{field_view}
+use Rattle.std.proofs.{Common.{arith, map}, lemmas.List.at_drop_all}
+use Rattle.pc_tree.specs.{Levels.fields_depth, View.field_view}
 use Rattle.pc_measure.proofs.level.of_fields.Goals as goal
 
 pub returns : goal.returns

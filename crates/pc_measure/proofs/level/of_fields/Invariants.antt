@@ -1,6 +1,5 @@
 use Rattle.std.proofs.Common.{◌≡◌, max, min, ◌-◌, ◌^◌, ◌≤◌, drop, map}
-use Rattle.pc_tree.specs.Levels.{fields_depth}
-use Rattle.pc_tree.specs.View.{field_view}
+use Rattle.pc_tree.specs.{Levels.fields_depth, View.field_view}
 use Rattle.pc_measure.proofs.level.of_fields.Given as goal
 
 abbrev pub invariant-loop-x : goal.invariant-loop-x

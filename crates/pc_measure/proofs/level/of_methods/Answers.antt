@@ -1,7 +1,5 @@
-use Rattle.std.proofs.Common.{arith, map}
-use Rattle.std.proofs.lemmas.List.{at_drop_all}
-use Rattle.pc_tree.specs.Levels.{methods_depth}
-use Rattle.pc_tree.specs.View.{method_view}
+use Rattle.std.proofs.{Common.{arith, map}, lemmas.List.at_drop_all}
+use Rattle.pc_tree.specs.{Levels.methods_depth, View.method_view}
 use Rattle.pc_measure.proofs.level.of_methods.Goals as goal
 
 pub returns : goal.returns

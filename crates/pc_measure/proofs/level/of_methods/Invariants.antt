@@ -1,6 +1,5 @@
 use Rattle.std.proofs.Common.{◌≡◌, max, min, ◌-◌, ◌^◌, ◌≤◌, drop, map}
-use Rattle.pc_tree.specs.Levels.{methods_depth}
-use Rattle.pc_tree.specs.View.{method_view}
+use Rattle.pc_tree.specs.{Levels.methods_depth, View.method_view}
 use Rattle.pc_measure.proofs.level.of_methods.Given as goal
 
 abbrev pub invariant-loop-x : goal.invariant-loop-x

@@ -1,5 +1,4 @@
-use Rattle.std.proofs.Common.{arith}
-use Rattle.std.proofs.lemmas.List.{at_drop_all}
+use Rattle.std.proofs.{Common.arith, lemmas.List.at_drop_all}
 use Rattle.pc_measure.specs.Sizes.{items_size, exprs_size, suffixes_size, arms_size}
 use Rattle.pc_tree.specs.View.{items_view, exprs_view, suffixes_view, arms_view}
 use Rattle.pc_measure.proofs.measure.+size.Goals as goal

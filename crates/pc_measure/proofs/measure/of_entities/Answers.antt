@@ -1,5 +1,4 @@
-use Rattle.std.proofs.Common.{arith, map}
-use Rattle.std.proofs.lemmas.List.{at_drop_all}
+use Rattle.std.proofs.{Common.{arith, map}, lemmas.List.at_drop_all}
 use Rattle.pc_measure.specs.Sizes.{entities_size}
 use Rattle.pc_tree.specs.View.{entity_view}
 use Rattle.pc_measure.proofs.measure.of_entities.Goals as goal

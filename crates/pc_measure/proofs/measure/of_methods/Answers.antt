@@ -1,5 +1,4 @@
-use Rattle.std.proofs.Common.{arith, map}
-use Rattle.std.proofs.lemmas.List.{at_drop_all}
+use Rattle.std.proofs.{Common.{arith, map}, lemmas.List.at_drop_all}
 use Rattle.pc_measure.specs.Sizes.{methods_size}
 use Rattle.pc_tree.specs.View.{method_view}
 use Rattle.pc_measure.proofs.measure.of_methods.Goals as goal

@@ -1,9 +1,7 @@
-use Rattle.std.proofs.Common.{◌∙◌, ◌*◌, sym, ap}
+use Rattle.std.proofs.{Common.{◌∙◌, ◌*◌, sym, ap}, lemmas.List.length-map}
 use Rattle.std.specs.Prelude.{replicate}
-use Rattle.std.proofs.lemmas.List.{length-map}
 use Rattle.pc_tree.specs.View.{entity_view, file_view}
-use Rattle.pc_member_counts.proofs.Totals.{got_none}
-use Rattle.pc_member_counts.proofs.Planned.{counts_few}
+use Rattle.pc_member_counts.proofs.{Totals.got_none, Planned.counts_few}
 use Rattle.pc_member_counts.proofs.counting.count_got.Goals as goal
 
 pub loop-window-init : goal.loop-window-init

@@ -1,10 +1,7 @@
-use Rattle.std.proofs.Common.{◌≡◌, ◌∙◌, sym, ap, subst, length, map}
+use Rattle.std.proofs.{Common.{◌≡◌, ◌∙◌, sym, ap, subst, length, map}, lemmas.List.length-map}
 use Rattle.std.specs.Prelude.{IfOk, replicate}
-use Rattle.std.proofs.lemmas.List.{length-map}
 use Rattle.pc_tree.specs.View.{entity_view, file_view}
-use Rattle.pc_member_counts.specs.Blocks.{nothing}
-use Rattle.pc_member_counts.specs.Fresh.{with_fresh}
-use Rattle.pc_member_counts.specs.Windows.{filled}
+use Rattle.pc_member_counts.specs.{Blocks.nothing, Fresh.with_fresh, Windows.filled}
 use Rattle.pc_member_counts.proofs.Planned.{window_is, counts_few}
 use Rattle.pc_member_counts.proofs.counting.count_window.Goals as goal
 

@@ -1,6 +1,5 @@
-use Rattle.std.proofs.Common.{◌∙◌, map}
-use Rattle.std.proofs.lemmas.List.{length-map}
-use Rattle.pc_lists.proofs.Gets.{get_map}
+use Rattle.std.proofs.{Common.{◌∙◌, map}, lemmas.List.length-map}
+use Rattle.pc_base.proofs.Gets.{get_map}
 use Rattle.pc_tree.specs.View.{entity_view, method_view}
 use Rattle.pc_member_counts.proofs.Planned.{got_at, placed_is}
 use Rattle.pc_member_counts.proofs.window.fill_place.Goals as goal

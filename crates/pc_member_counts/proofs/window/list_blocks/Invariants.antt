@@ -1,8 +1,7 @@
 use Rattle.std.proofs.Common.{◌≡◌, map, drop, length}
 use Rattle.std.specs.Prelude.{replicate}
 use Rattle.pc_tree.specs.View.{entity_view}
-use Rattle.pc_member_counts.specs.Blocks.{nothing}
-use Rattle.pc_member_counts.specs.Windows.{filled}
+use Rattle.pc_member_counts.specs.{Blocks.nothing, Windows.filled}
 use Rattle.pc_member_counts.proofs.window.list_blocks.Given as goal
 
 abbrev pub invariant-loop-place : goal.invariant-loop-place

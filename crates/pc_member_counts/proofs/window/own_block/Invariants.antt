@@ -1,7 +1,6 @@
 use Rattle.std.proofs.Common.{◌≡◌, map, drop}
 use Rattle.pc_tree.specs.View.{method_view}
-use Rattle.pc_member_counts.specs.Blocks.{nothing}
-use Rattle.pc_member_counts.specs.Windows.{own_block}
+use Rattle.pc_member_counts.specs.{Blocks.nothing, Windows.own_block}
 use Rattle.pc_member_counts.proofs.window.own_block.Given as goal
 
 abbrev pub invariant-loop-at : goal.invariant-loop-at

@@ -1,8 +1,6 @@
 use Rattle.std.proofs.Common.{◌≡◌, ◌++◌, map, drop}
 use Rattle.pc_tree.specs.View.{entity_view}
-use Rattle.pc_members.specs.Rounds.{completed_from}
-use Rattle.pc_members.specs.Numbered.{numbered_table}
-use Rattle.pc_members.specs.Views.{table_view}
+use Rattle.pc_members.specs.{Rounds.completed_from, Numbered.numbered_table, Views.table_view}
 use Rattle.pc_members.proofs.inherited.complete_all.Given as goal
 
 abbrev pub invariant-loop-place : goal.invariant-loop-place

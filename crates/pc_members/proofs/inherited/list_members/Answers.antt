@@ -1,10 +1,7 @@
-use Rattle.std.proofs.Common.{◌≡◌, ◌∙◌, sym, ap, subst, length, map}
+use Rattle.std.proofs.{Common.{◌≡◌, ◌∙◌, sym, ap, subst, length, map}, lemmas.List.length-map}
 use Rattle.std.specs.Prelude.{IfOk}
-use Rattle.std.proofs.lemmas.List.{length-map}
 use Rattle.pc_tree.specs.View.{entity_view, file_view}
-use Rattle.pc_members.specs.Rounds.{completed_from}
-use Rattle.pc_members.specs.Numbered.{numbered_table}
-use Rattle.pc_members.specs.Views.{table_view}
+use Rattle.pc_members.specs.{Rounds.completed_from, Numbered.numbered_table, Views.table_view}
 use Rattle.pc_members.proofs.Completed.{all_completed}
 use Rattle.pc_members.proofs.inherited.list_members.Goals as goal
 

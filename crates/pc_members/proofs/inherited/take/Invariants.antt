@@ -1,7 +1,5 @@
 use Rattle.std.proofs.Common.{◌≡◌, ◌++◌, drop}
-use Rattle.pc_members.specs.Rounds.{taken_members, with_taken}
-use Rattle.pc_members.specs.Numbered.{numbered_view}
-use Rattle.pc_members.specs.Views.{members_view}
+use Rattle.pc_members.specs.{Rounds.{taken_members, with_taken}, Numbered.numbered_view, Views.members_view}
 use Rattle.pc_members.proofs.inherited.take.Given as goal
 
 abbrev pub invariant-loop-numbered : goal.invariant-loop-numbered

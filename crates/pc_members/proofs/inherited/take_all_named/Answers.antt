@@ -1,8 +1,7 @@
 use Rattle.std.proofs.Common.{◌+◌, drop, arith}
-use Rattle.pc_members.specs.Numbered.{numbered_table}
-use Rattle.pc_members.specs.Views.{members_view}
+use Rattle.pc_members.specs.{Numbered.numbered_table, Views.members_view}
 use Rattle.pc_members.proofs.Firsts.{taken_turn}
-use Rattle.pc_lists.proofs.Cuts.{item_first}
+use Rattle.pc_base.proofs.Cuts.{item_first}
 use Rattle.pc_members.proofs.inherited.take_all_named.Goals as goal
 
 pub loop-name-preserved : goal.loop-name-preserved

@@ -1,7 +1,5 @@
 use Rattle.std.proofs.Common.{◌≡◌, ◌++◌, drop}
-use Rattle.pc_members.specs.Rounds.{taken_members, named_all}
-use Rattle.pc_members.specs.Numbered.{numbered_table}
-use Rattle.pc_members.specs.Views.{members_view}
+use Rattle.pc_members.specs.{Rounds.{taken_members, named_all}, Numbered.numbered_table, Views.members_view}
 use Rattle.pc_members.proofs.inherited.take_all_named.Given as goal
 
 abbrev pub invariant-loop-name : goal.invariant-loop-name

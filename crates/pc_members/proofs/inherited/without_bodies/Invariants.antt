@@ -1,7 +1,5 @@
 use Rattle.std.proofs.Common.{◌≡◌, ◌++◌, map, drop}
-use Rattle.pc_members.specs.Rounds.{bodiless}
-use Rattle.pc_members.specs.Numbered.{numbered_view}
-use Rattle.pc_members.specs.Views.{members_view}
+use Rattle.pc_members.specs.{Rounds.bodiless, Numbered.numbered_view, Views.members_view}
 use Rattle.pc_members.proofs.inherited.without_bodies.Given as goal
 
 abbrev pub invariant-loop-numbered : goal.invariant-loop-numbered

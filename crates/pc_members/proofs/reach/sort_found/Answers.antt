@@ -1,8 +1,7 @@
 use Rattle.std.proofs.Common.{sym, ◌∙◌, arith}
 use Rattle.pc_members.specs.Edges.{ascending}
-use Rattle.pc_members.proofs.Reaches.{found_goes, missed_goes}
+use Rattle.pc_members.proofs.{Reaches.{found_goes, missed_goes}, reach.sort_found.Goals.{then-has+in_ok-push, else-has}}
 use Rattle.pc_members.proofs.reach.sort_found.Goals as goal
-use Rattle.pc_members.proofs.reach.sort_found.Goals.{then-has+in_ok-push, else-has}
 
 pub loop-number-preserved : goal.loop-number-preserved
 loop-number-preserved c =

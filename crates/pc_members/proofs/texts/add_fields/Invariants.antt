@@ -1,7 +1,6 @@
 use Rattle.std.proofs.Common.{◌≡◌, map, drop}
 use Rattle.pc_tree.specs.View.{field_view}
-use Rattle.pc_members.specs.Members.{field_texts}
-use Rattle.pc_members.specs.MemberLists.{with_names}
+use Rattle.pc_members.specs.{Members.field_texts, MemberLists.with_names}
 use Rattle.pc_members.proofs.texts.add_fields.Given as goal
 
 abbrev pub invariant-loop-field : goal.invariant-loop-field

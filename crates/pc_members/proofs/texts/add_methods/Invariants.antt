@@ -1,7 +1,6 @@
 use Rattle.std.proofs.Common.{◌≡◌, map, drop}
 use Rattle.pc_tree.specs.View.{method_view}
-use Rattle.pc_members.specs.Members.{method_texts}
-use Rattle.pc_members.specs.MemberLists.{with_names}
+use Rattle.pc_members.specs.{Members.method_texts, MemberLists.with_names}
 use Rattle.pc_members.proofs.texts.add_methods.Given as goal
 
 abbrev pub invariant-loop-method : goal.invariant-loop-method

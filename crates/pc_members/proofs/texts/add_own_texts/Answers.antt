@@ -1,9 +1,7 @@
 use Rattle.std.proofs.Common.{◌≡◌, ◌++◌, ◌∙◌, sym, ap, subst}
 use Rattle.std.specs.Prelude.{OnOk}
 use Rattle.pc_tree.specs.View.{entity_view}
-use Rattle.pc_members.specs.Members.{field_texts, method_texts, has_added}
-use Rattle.pc_members.specs.Parts.{added_text}
-use Rattle.pc_members.specs.MemberLists.{with_names}
+use Rattle.pc_members.specs.{Members.{field_texts, method_texts, has_added}, Parts.added_text, MemberLists.with_names}
 use Rattle.pc_members.proofs.Tables.{own_in_parts}
 use Rattle.pc_members.proofs.texts.add_own_texts.Goals as goal
 

@@ -1,6 +1,5 @@
 use Rattle.std.proofs.Common.{◌≡◌, ◌++◌, drop}
-use Rattle.pc_members.specs.Rounds.{first_members, named_all}
-use Rattle.pc_members.specs.Numbered.{numbered_table, numbered_view}
+use Rattle.pc_members.specs.{Rounds.{first_members, named_all}, Numbered.{numbered_table, numbered_view}}
 use Rattle.pc_members.proofs.traits.add_all_named.Given as goal
 
 abbrev pub invariant-loop-name : goal.invariant-loop-name

@@ -1,7 +1,5 @@
 use Rattle.std.proofs.Common.{◌≡◌, ◌++◌, drop}
-use Rattle.pc_members.specs.MemberLists.{with_names}
-use Rattle.pc_members.specs.Rounds.{first_members, member_texts}
-use Rattle.pc_members.specs.Numbered.{numbered_view}
+use Rattle.pc_members.specs.{MemberLists.with_names, Rounds.{first_members, member_texts}, Numbered.numbered_view}
 use Rattle.pc_members.proofs.traits.add_firsts.Given as goal
 
 abbrev pub invariant-loop-member : goal.invariant-loop-member

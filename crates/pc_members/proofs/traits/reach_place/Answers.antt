@@ -1,16 +1,11 @@
-use Rattle.std.proofs.Common.{◌≡◌, ◌∙◌, sym, ap}
-use Rattle.std.proofs.lemmas.List.{map-set}
-use Rattle.std.proofs.lemmas.Option.{same_Some}
-use Rattle.pc_lists.proofs.Gets.{get_map}
-use Rattle.pc_tree.specs.Kinds.{is_abstract}
+use Rattle.std.proofs.{Common.{◌≡◌, ◌∙◌, sym, ap}, lemmas.List.map-set, lemmas.Option.same_Some}
+use Rattle.pc_base.proofs.{Gets.get_map, Bools.true_false}
+use Rattle.pc_tree.specs.{Kinds.is_abstract, View.{entity_view, file_view}}
 use Rattle.pc_tree.specs.Tree as t
-use Rattle.pc_tree.specs.View.{entity_view, file_view}
-use Rattle.pc_lists.proofs.Bools.{true_false}
 use Rattle.pc_members.specs.Rounds as spec
 use Rattle.pc_members.specs.Numbered.{numbered_table, numbered_view}
-use Rattle.pc_members.proofs.Rounding.{reach_kept, reach_new}
+use Rattle.pc_members.proofs.{Rounding.{reach_kept, reach_new}, traits.reach_place.Goals.{else-is_abstract-via-then-is_abstract+else-rank_of-rank, else-is_abstract-via-else-is_abstract}}
 use Rattle.pc_members.proofs.traits.reach_place.Goals as goal
-use Rattle.pc_members.proofs.traits.reach_place.Goals.{else-is_abstract-via-then-is_abstract+else-rank_of-rank, else-is_abstract-via-else-is_abstract}
 
 pub returns-in_ok-members : goal.returns-in_ok-members
 returns-in_ok-members c =

@@ -1,5 +1,4 @@
-use Rattle.std.proofs.Common.{arith}
-use Rattle.std.proofs.lemmas.List.{length-map}
+use Rattle.std.proofs.{Common.arith, lemmas.List.length-map}
 use Rattle.pc_tree.specs.View.{entity_view, file_view}
 use Rattle.pc_members.specs.Numbered.{numbered_table}
 use Rattle.pc_members.proofs.Rounding.{next_rank}

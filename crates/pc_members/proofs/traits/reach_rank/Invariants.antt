@@ -1,6 +1,5 @@
 use Rattle.pc_tree.specs.View.{file_view}
-use Rattle.pc_members.specs.Rounds.{Knows}
-use Rattle.pc_members.specs.Numbered.{numbered_table}
+use Rattle.pc_members.specs.{Rounds.Knows, Numbered.numbered_table}
 use Rattle.pc_members.proofs.traits.reach_rank.Given as goal
 
 abbrev pub invariant-loop-place : goal.invariant-loop-place

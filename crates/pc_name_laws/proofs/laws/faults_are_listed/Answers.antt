@@ -1,7 +1,5 @@
 use Rattle.pc_members.specs.Members.{written, added}
-use Rattle.pc_name_laws.proofs.Counting.{file_counts, file_mains}
-use Rattle.pc_name_laws.proofs.Declarations.{entities_list, entity_lists}
-use Rattle.pc_name_laws.proofs.Walks.{member_tells}
+use Rattle.pc_name_laws.proofs.{Counting.{file_counts, file_mains}, Declarations.{entities_list, entity_lists}, Walks.member_tells}
 use Rattle.pc_name_laws.proofs.laws.faults_are_listed.Goals as goal
 
 pub returns : goal.returns

@@ -1,5 +1,4 @@
-use Rattle.pc_name_laws.proofs.Joined.{fault_is_told}
-use Rattle.pc_name_laws.proofs.Unknowns.{told_is_least, told_of_text_is_least}
+use Rattle.pc_name_laws.proofs.{Joined.fault_is_told, Unknowns.{told_is_least, told_of_text_is_least}}
 use Rattle.pc_name_laws.proofs.laws.told_is_least.Goals as goal
 
 pub returns : goal.returns

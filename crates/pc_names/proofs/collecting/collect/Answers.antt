@@ -1,5 +1,4 @@
-use Rattle.std.proofs.Common.{sym, ◌∙◌, subst}
-use Rattle.std.proofs.lemmas.Result.{err_from_is_err_and}
+use Rattle.std.proofs.{Common.{sym, ◌∙◌, subst}, lemmas.Result.err_from_is_err_and}
 use Rattle.pc_tree.specs.View.{file_view}
 use Rattle.pc_members.specs.Members.{IsTransitiveClosure}
 use Rattle.pc_members.proofs.Closings.{closes}

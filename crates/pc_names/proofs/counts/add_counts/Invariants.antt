@@ -1,7 +1,7 @@
 use Rattle.std.proofs.Common.{◌≡◌, ◌≤◌, map, drop}
 use Rattle.pc_tree.specs.View.{entity_view}
 use Rattle.pc_names.specs.Parts.{faults_by_count}
-use Rattle.pc_caps.specs.Limits.{method_limit}
+use Rattle.pc_base.specs.Limits.{method_limit}
 use Rattle.pc_names.proofs.counts.add_counts.Given as goal
 
 abbrev pub invariant-loop-at : goal.invariant-loop-at

@@ -1,5 +1,4 @@
-use Rattle.std.proofs.Common.{arith}
-use Rattle.std.proofs.lemmas.Result.{err_from_is_err_and}
+use Rattle.std.proofs.{Common.arith, lemmas.Result.err_from_is_err_and}
 use Rattle.pc_names.proofs.Stops.{field_name_stops, field_type_stops}
 use Rattle.pc_names.proofs.declarations.add_fields.Goals as goal
 

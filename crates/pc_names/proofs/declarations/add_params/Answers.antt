@@ -1,5 +1,4 @@
-use Rattle.std.proofs.Common.{sym, ◌∙◌, arith}
-use Rattle.std.proofs.lemmas.Result.{err_from_is_err_and}
+use Rattle.std.proofs.{Common.{sym, ◌∙◌, arith}, lemmas.Result.err_from_is_err_and}
 use Rattle.pc_names.proofs.Stops.{param_stops}
 use Rattle.pc_names.proofs.declarations.add_params.Goals as goal
 

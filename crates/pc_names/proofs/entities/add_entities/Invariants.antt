@@ -1,7 +1,6 @@
 use Rattle.std.proofs.Common.{◌≡◌, ◌++◌, ◌≤◌, map, length, drop}
 use Rattle.pc_tree.specs.View.{entity_view}
-use Rattle.pc_names.specs.Faults.{entity_name_faults}
-use Rattle.pc_names.specs.Parts.{known_limit}
+use Rattle.pc_names.specs.{Faults.entity_name_faults, Parts.known_limit}
 use Rattle.pc_members.specs.Members.{texts_of}
 use Rattle.pc_names.proofs.entities.add_entities.Given as goal
 

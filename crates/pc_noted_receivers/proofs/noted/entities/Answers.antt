@@ -1,6 +1,4 @@
-use Rattle.std.proofs.Common.{◌≡◌, ℕ, List, Option, length, map, sym, subst, ap, ◌∙◌}
-use Rattle.std.proofs.lemmas.List.{length-map}
-use Rattle.std.proofs.lemmas.Result.{IfOk-weaker}
+use Rattle.std.proofs.{Common.{◌≡◌, ℕ, List, Option, length, map, sym, subst, ap, ◌∙◌}, lemmas.List.length-map, lemmas.Result.IfOk-weaker}
 use Rattle.pc_ann.specs.declared.annotation.Note.{Note}
 use Rattle.pc_sends.specs.Held.{Held}
 use Rattle.pc_noted_receivers.specs.Parts.{noted_in}

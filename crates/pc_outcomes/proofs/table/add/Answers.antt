@@ -1,12 +1,7 @@
 use Rattle.std.proofs.Common.{◌≤◌, ◌<◌, ◌+◌, ◌∙◌, ℕ, refl, sym, ap, subst, arith}
 use Rattle.std.specs.Prelude.{position}
-use Rattle.pc_outcomes.specs.declared.entry.Entry.{Entry}
-use Rattle.pc_outcomes.specs.declared.entry.Play.{Play}
-use Rattle.pc_outcomes.specs.Plays.{IsPlayOfSeed}
-use Rattle.pc_outcomes.specs.Tables.{shows_outcome, steps_limit}
-use Rattle.pc_outcomes.specs.Under.{Under}
-use Rattle.pc_outcomes.proofs.Adding.{steps_pass, adds_found}
-use Rattle.pc_outcomes.proofs.Finding.{same_play}
+use Rattle.pc_outcomes.specs.{declared.entry.Entry.Entry, declared.entry.Play.Play, Plays.IsPlayOfSeed, Tables.{shows_outcome, steps_limit}, Under.Under}
+use Rattle.pc_outcomes.proofs.{Adding.{steps_pass, adds_found}, Finding.same_play}
 use Rattle.pc_outcomes.proofs.table.add.Goals as goal
 
 pub returns-then-steps-gt-STEPS_LIMIT : goal.returns-then-steps-gt-STEPS_LIMIT

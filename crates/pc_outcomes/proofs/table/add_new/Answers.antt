@@ -1,8 +1,5 @@
 use Rattle.std.proofs.Common.{◌≡◌, ◌≤◌, ◌<◌, ◌+◌, ◌++◌, ◌∷◌, [], ℕ, List, length, refl, sym, subst, arith}
-use Rattle.pc_outcomes.specs.declared.entry.Entry.{Entry}
-use Rattle.pc_outcomes.specs.Shown.{play_with}
-use Rattle.pc_outcomes.specs.Tables.{steps_limit, texts_limit}
-use Rattle.pc_outcomes.specs.Under.{Under, entry_of}
+use Rattle.pc_outcomes.specs.{declared.entry.Entry.Entry, Shown.play_with, Tables.{steps_limit, texts_limit}, Under.{Under, entry_of}}
 use Rattle.pc_outcomes.proofs.Adding.{texts_pass, adds_new}
 use Rattle.pc_outcomes.proofs.table.add_new.Goals as goal
 

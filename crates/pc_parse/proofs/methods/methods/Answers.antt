@@ -1,6 +1,4 @@
-use Rattle.std.proofs.Common.{◌<◌, length, drop, map, ap, ◌∙◌, sym, arith, length-drop}
-use Rattle.std.proofs.lemmas.List.{map_push}
-use Rattle.std.proofs.lemmas.Result.{err_from_is_err_and}
+use Rattle.std.proofs.{Common.{◌<◌, length, drop, map, ap, ◌∙◌, sym, arith, length-drop}, lemmas.List.map_push, lemmas.Result.err_from_is_err_and}
 use Rattle.pc_tree.specs.View.{method_view}
 use Rattle.pc_expr.proofs.Loops.{loop_goes_on, loop_ends, stops_here}
 use Rattle.pc_parse.proofs.Loops.{loop_begins}

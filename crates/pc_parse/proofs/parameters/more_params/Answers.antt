@@ -1,5 +1,4 @@
-use Rattle.std.proofs.Common.{◌<◌, length, drop, sym, arith, length-drop}
-use Rattle.std.proofs.lemmas.Result.{err_from_is_err_and}
+use Rattle.std.proofs.{Common.{◌<◌, length, drop, sym, arith, length-drop}, lemmas.Result.err_from_is_err_and}
 use Rattle.pc_expr.proofs.Loops.{loop_starts, loop_goes_on, loop_ends, stops_here}
 use Rattle.pc_parse.proofs.parameters.more_params.Goals as goal
 

@@ -1,5 +1,4 @@
-use Rattle.std.proofs.Common.{◌≤◌, length, arith}
-use Rattle.std.proofs.lemmas.Result.{err_from_is_err_and}
+use Rattle.std.proofs.{Common.{◌≤◌, length, arith}, lemmas.Result.err_from_is_err_and}
 use Rattle.pc_tree.specs.View.{file_view}
 use Rattle.pc_parse.proofs.Public.{spells_all, goes_on, stops_right}
 use Rattle.pc_parse.proofs.parsing.whole.Goals as goal

@@ -1,5 +1,4 @@
-use Rattle.std.proofs.Common.{◌+◌, ◌-◌, ◌/◌, ◌<◌, ◌≤◌, length, refl, sym, subst, arith}
-use Rattle.std.proofs.lemmas.Option.{slice_get_read}
+use Rattle.std.proofs.{Common.{◌+◌, ◌-◌, ◌/◌, ◌<◌, ◌≤◌, length, refl, sym, subst, arith}, lemmas.Option.slice_get_read}
 use Rattle.pc_token.specs.declared.kinds.Token.{Token}
 use Rattle.pc_places.proofs.Searching.{lower_half, upper_half, middle_below}
 use Rattle.pc_places.proofs.locals.count_until.Goals as goal

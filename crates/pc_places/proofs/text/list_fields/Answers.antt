@@ -1,6 +1,5 @@
-use Rattle.std.proofs.Common.{◌++◌, refl, ap, ◌∙◌, map, arith}
+use Rattle.std.proofs.{Common.{◌++◌, refl, ap, ◌∙◌, map, arith}, lemmas.Option.slice_get_read}
 use Rattle.std.specs.Prelude.{List}
-use Rattle.std.proofs.lemmas.Option.{slice_get_read}
 use Rattle.pc_core.specs.declared.declarations.FieldInfo.{FieldInfo}
 use Rattle.pc_places.specs.Text.{fields_from}
 use Rattle.pc_places.proofs.Fields.{fields_more}

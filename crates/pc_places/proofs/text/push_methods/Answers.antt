@@ -1,6 +1,5 @@
-use Rattle.std.proofs.Common.{◌+◌, ◌++◌, drop, refl, ap, sym, subst, ◌∙◌, Some, slice_get, ◌≡◌, arith}
+use Rattle.std.proofs.{Common.{◌+◌, ◌++◌, drop, refl, ap, sym, subst, ◌∙◌, Some, slice_get, ◌≡◌, arith}, lemmas.Option.slice_get_read}
 use Rattle.std.specs.Prelude.{ℕ, List}
-use Rattle.std.proofs.lemmas.Option.{slice_get_read}
 use Rattle.pc_core.specs.declared.declarations.Method.{Method}
 use Rattle.pc_places.specs.Text.{method_line, methods_text}
 use Rattle.pc_places.proofs.Joining.{methods_step, put_next}

@@ -1,7 +1,6 @@
-use Rattle.std.proofs.Common.{sym, ap, subst, ◌∙◌}
+use Rattle.std.proofs.{Common.{sym, ap, subst, ◌∙◌}, lemmas.Result.IfOk-weaker}
 use Rattle.std.specs.Prelude.{List}
-use Rattle.std.proofs.lemmas.Result.{IfOk-weaker}
-use Rattle.pc_lists.specs.Lists.{Ascends}
+use Rattle.pc_base.specs.Lists.{Ascends}
 use Rattle.pc_places.specs.Text.{places_text}
 use Rattle.pc_text_order.specs.Laws.{starts}
 use Rattle.pc_token.specs.declared.kinds.Token.{Token}

@@ -1,8 +1,6 @@
 use Rattle.std.proofs.Common.{rules, ◌≡◌, ℕ, ◌∙◌, Some, None, refl, sym, ap, subst, arith}
-use Rattle.pc_run.specs.declared.counts.Progress.TheVariants.{Going}
-use Rattle.pc_run.specs.Counting.{counted}
-use Rattle.pc_choose.specs.Choosers.{step_of}
-use Rattle.pc_choose.specs.Lists.{most_steps}
+use Rattle.pc_run.specs.{declared.counts.Progress.TheVariants.Going, Counting.counted}
+use Rattle.pc_choose.specs.{Choosers.step_of, Lists.most_steps}
 use Rattle.pc_play.specs.Plays.{IsThrough}
 use Rattle.pc_choose.proofs.Underway.{of_same, skipped_ends, too_long_ends, lacks_ends}
 use Rattle.pc_play.proofs.UnderPlay.{taken_all, begins, is_full, is_over, goes_on, stops, never_lacks}

@@ -1,13 +1,11 @@
-use Rattle.std.proofs.Common.{◌≡◌, ◌++◌, ◌+◌, cond, codes, drop, subst, sym, ap, ◌∙◌}
-use Rattle.std.proofs.lemmas.List.{drop_all}
-use Rattle.pc_lists.proofs.Cuts.{item_first}
+use Rattle.std.proofs.{Common.{◌≡◌, ◌++◌, ◌+◌, cond, codes, drop, subst, sym, ap, ◌∙◌}, lemmas.List.drop_all}
+use Rattle.pc_base.proofs.Cuts.{item_first}
 use Rattle.pc_tree.specs.View.{item_view, items_view, expr_view, exprs_view, seq_view, suffix_view, suffixes_view, arm_view, arms_view, other_view}
 use Rattle.pc_token.specs.Words.{word_text}
 use Rattle.pc_grammar.specs.Spells.{local_word}
 use Rattle.pc_print.specs.Parts as parts
 use Rattle.pc_print.specs.Printing as text
-use Rattle.pc_print.proofs.Turns.{turn, turn_between, turn_headed, nothing_left, nothing_left_between, ok_after, ok_told, ok_pushed, ok_bare}
-use Rattle.pc_print.proofs.Told.{told_recover, told_while, told_assign, told_not, told_if, told_chain, told_local, told_dot, told_args, told_arm, told_seq}
+use Rattle.pc_print.proofs.{Turns.{turn, turn_between, turn_headed, nothing_left, nothing_left_between, ok_after, ok_told, ok_pushed, ok_bare}, Told.{told_recover, told_while, told_assign, told_not, told_if, told_chain, told_local, told_dot, told_args, told_arm, told_seq}}
 use Rattle.pc_print.proofs.expression.+print.Goals as goal
 
 pub push_items-loop-x-preserved : goal.push_items-loop-x-preserved

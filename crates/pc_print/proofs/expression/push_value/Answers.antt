@@ -1,7 +1,5 @@
-use Rattle.std.proofs.Common.{◌≡◌, ◌++◌, ◌+◌, drop, get_or, subst}
-use Rattle.std.proofs.lemmas.List.{drop_all, drop_more}
-use Rattle.pc_print.specs.Printing.{escaped}
-use Rattle.pc_print.specs.Parts.{all_escaped}
+use Rattle.std.proofs.{Common.{◌≡◌, ◌++◌, ◌+◌, drop, get_or, subst}, lemmas.List.{drop_all, drop_more}}
+use Rattle.pc_print.specs.{Printing.escaped, Parts.all_escaped}
 use Rattle.pc_print.proofs.Turns.{turn, nothing_left}
 use Rattle.pc_print.proofs.expression.push_value.Goals as goal
 

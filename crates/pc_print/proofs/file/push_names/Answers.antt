@@ -1,6 +1,5 @@
-use Rattle.std.proofs.Common.{◌≡◌, ◌++◌, ◌+◌, cond, codes, drop, refl, subst, ap, ◌∙◌}
-use Rattle.std.proofs.lemmas.List.{drop_all}
-use Rattle.pc_lists.proofs.Cuts.{item_first}
+use Rattle.std.proofs.{Common.{◌≡◌, ◌++◌, ◌+◌, cond, codes, drop, refl, subst, ap, ◌∙◌}, lemmas.List.drop_all}
+use Rattle.pc_base.proofs.Cuts.{item_first}
 use Rattle.pc_print.specs.Parts as parts
 use Rattle.pc_print.proofs.Turns.{turn_between, nothing_left_between}
 use Rattle.pc_print.proofs.file.push_names.Goals as goal

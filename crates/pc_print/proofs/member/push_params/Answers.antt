@@ -1,6 +1,5 @@
-use Rattle.std.proofs.Common.{◌≡◌, ◌++◌, ◌+◌, cond, codes, drop, subst}
-use Rattle.std.proofs.lemmas.List.{drop_all}
-use Rattle.pc_lists.proofs.Cuts.{item_first}
+use Rattle.std.proofs.{Common.{◌≡◌, ◌++◌, ◌+◌, cond, codes, drop, subst}, lemmas.List.drop_all}
+use Rattle.pc_base.proofs.Cuts.{item_first}
 use Rattle.pc_print.specs.Parts as parts
 use Rattle.pc_print.specs.Printing as text
 use Rattle.pc_print.proofs.Turns.{turn_between, nothing_left_between}

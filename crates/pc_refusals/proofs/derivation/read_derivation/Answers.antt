@@ -1,9 +1,6 @@
 use Rattle.std.proofs.lemmas.Result.{err_from_is_err_and}
 use Rattle.pc_deriv.specs.Text.{derivation_limit}
-use Rattle.pc_refusals.specs.Source.After.{stops}
-use Rattle.pc_refusals.specs.Derivation.{DerivationStage, Deriving}
-use Rattle.pc_refusals.specs.Verdict.{file_at}
-use Rattle.pc_refusals.specs.Source.Length.{is_longer}
+use Rattle.pc_refusals.specs.{Source.After.stops, Derivation.{DerivationStage, Deriving}, Verdict.file_at, Source.Length.is_longer}
 use Rattle.pc_refusals.proofs.Parts.{not_read, whole_ends}
 use Rattle.pc_refusals.proofs.derivation.read_derivation.Goals as goal
 

@@ -1,8 +1,6 @@
 use Rattle.std.proofs.Common.{sym, subst}
-use Rattle.pc_deriv.specs.declared.line.LineFault.{LineFault}
-use Rattle.pc_deriv.specs.Laws.{as_read}
-use Rattle.pc_refusals.specs.Derivation.{text_line, text_status}
-use Rattle.pc_refusals.specs.Inner.Refusals.{IsRefusal}
+use Rattle.pc_deriv.specs.{declared.line.LineFault.LineFault, Laws.as_read}
+use Rattle.pc_refusals.specs.{Derivation.{text_line, text_status}, Inner.Refusals.IsRefusal}
 use Rattle.pc_refusal_lines.specs.Lines.{bad_line, many_line}
 use Rattle.pc_refusals.proofs.derivation.refuse_text.Goals as goal
 

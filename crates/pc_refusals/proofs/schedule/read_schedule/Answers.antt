@@ -1,9 +1,6 @@
 use Rattle.std.proofs.lemmas.Result.{err_from_is_err_and}
 use Rattle.pc_sched.specs.Schedules.{schedule_limit}
-use Rattle.pc_refusals.specs.Source.After.{stops}
-use Rattle.pc_refusals.specs.Source.{ScheduleStage, Scheduling}
-use Rattle.pc_refusals.specs.Verdict.{file_at}
-use Rattle.pc_refusals.specs.Source.Length.{is_longer}
+use Rattle.pc_refusals.specs.{Source.After.stops, Source.{ScheduleStage, Scheduling}, Verdict.file_at, Source.Length.is_longer}
 use Rattle.pc_refusals.proofs.Parts.{not_read, whole_ends}
 use Rattle.pc_refusals.proofs.schedule.read_schedule.Goals as goal
 

@@ -1,7 +1,6 @@
 use Rattle.std.proofs.Common.{subst}
 use Rattle.pc_sched.specs.Answers.{RefusesSchedule}
-use Rattle.pc_refusals.specs.Source.{Scheduling}
-use Rattle.pc_refusals.specs.Source.Scheduling.{bad_word, scheduled, too_many}
+use Rattle.pc_refusals.specs.{Source.Scheduling, Source.Scheduling.{bad_word, scheduled, too_many}}
 use Rattle.pc_refusals.proofs.Stops.{refusal_stops}
 use Rattle.pc_refusals.proofs.schedule.read_turns.Goals as goal
 

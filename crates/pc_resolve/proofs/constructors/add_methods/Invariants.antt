@@ -1,7 +1,6 @@
 use Rattle.std.proofs.Common.{◌≡◌, drop, map}
 use Rattle.std.specs.Str.{bytes_eq}
-use Rattle.pc_resolve.specs.Indexes.{with_firsts}
-use Rattle.pc_resolve.specs.Pairs.{constructor_pair}
+use Rattle.pc_resolve.specs.{Indexes.with_firsts, Pairs.constructor_pair}
 use Rattle.pc_resolve.proofs.constructors.add_methods.Given as goal
 
 abbrev pub invariant-loop-constructor : goal.invariant-loop-constructor

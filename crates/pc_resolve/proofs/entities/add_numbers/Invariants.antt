@@ -1,7 +1,6 @@
 use Rattle.std.proofs.Common.{◌≡◌, drop}
 use Rattle.std.specs.Str.{bytes_eq}
-use Rattle.pc_resolve.specs.Indexes.{with_firsts}
-use Rattle.pc_resolve.specs.Pairs.{known_pairs}
+use Rattle.pc_resolve.specs.{Indexes.with_firsts, Pairs.known_pairs}
 use Rattle.pc_resolve.proofs.entities.add_numbers.Given as goal
 
 abbrev pub invariant-loop-at : goal.invariant-loop-at

@@ -1,6 +1,5 @@
 use Rattle.std.proofs.Common.{◌≡◌, drop, map, nat_eq}
-use Rattle.pc_resolve.specs.Indexes.{with_firsts}
-use Rattle.pc_resolve.specs.Pairs.{placed_pair}
+use Rattle.pc_resolve.specs.{Indexes.with_firsts, Pairs.placed_pair}
 use Rattle.pc_resolve.proofs.local_slots.note_all.Given as goal
 
 abbrev pub invariant-loop-placed : goal.invariant-loop-placed

@@ -1,8 +1,7 @@
 use Rattle.std.proofs.Common.{◌≡◌, ◌<◌, ◌&&◌, ◌+◌, length, drop, take, true, false, ap, sym, ◌∙◌}
 use Rattle.pc_rules.specs.Children.{goes_at}
 use Rattle.pc_rules.specs.Calls as spec
-use Rattle.pc_rules.proofs.Arguments.{counts_differ, count_taken}
-use Rattle.pc_rules.proofs.Further.{go_at, all_went}
+use Rattle.pc_rules.proofs.{Arguments.{counts_differ, count_taken}, Further.{go_at, all_went}}
 use Rattle.pc_rules.proofs.calls.arguments_go.Goals as goal
 
 pub returns-then-params-count : goal.returns-then-params-count

@@ -1,8 +1,7 @@
 use Rattle.std.proofs.Common.{◌≡◌, ◌<◌, ◌&&◌, ◌+◌, length, drop, take, true, false, ap, sym, ◌∙◌}
 use Rattle.pc_rules.specs.Children.{sendable_at}
 use Rattle.pc_rules.specs.Calls as spec
-use Rattle.pc_rules.proofs.Arguments.{sendable_counts, count_taken}
-use Rattle.pc_rules.proofs.Further.{sendable_step, all_sendable}
+use Rattle.pc_rules.proofs.{Arguments.{sendable_counts, count_taken}, Further.{sendable_step, all_sendable}}
 use Rattle.pc_rules.proofs.calls.arguments_sendable.Goals as goal
 
 pub returns-then-params-count : goal.returns-then-params-count

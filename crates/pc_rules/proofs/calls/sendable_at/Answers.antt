@@ -1,7 +1,6 @@
 use Rattle.std.proofs.Common.{◌∙◌, ap, sym}
 use Rattle.std.specs.Option.{option_copied}
-use Rattle.pc_rules.specs.Calls.{argument_sendable}
-use Rattle.pc_rules.specs.Children.{sendable_to_param}
+use Rattle.pc_rules.specs.{Calls.argument_sendable, Children.sendable_to_param}
 use Rattle.pc_rules.proofs.Found.{got}
 use Rattle.pc_rules.proofs.calls.sendable_at.Goals as goal
 

@@ -1,7 +1,6 @@
 use Rattle.std.proofs.Common.{◌∙◌, ap, sym, slice_get}
 use Rattle.pc_rules.specs.Children.{all_or_gathered}
-use Rattle.pc_rules.proofs.Found.{got}
-use Rattle.pc_rules.proofs.Gathered.{either_get}
+use Rattle.pc_rules.proofs.{Found.got, Gathered.either_get}
 use Rattle.pc_rules.proofs.children.note_in.Goals as goal
 
 pub returns-then-held : goal.returns-then-held

@@ -1,7 +1,6 @@
 use Rattle.std.proofs.Common.{◌≡◌, slice_get, Some, true, false, sym, subst, ◌<◌, ◌≤◌, ◌∙◌}
 use Rattle.pc_rules.specs.Parts.{starts}
-use Rattle.pc_rules.proofs.Further.{through_stops, through_goes, all_through}
-use Rattle.pc_rules.proofs.Deciding.{none_there}
+use Rattle.pc_rules.proofs.{Further.{through_stops, through_goes, all_through}, Deciding.none_there}
 use Rattle.pc_rules.proofs.parts.through_notes.Goals as goal
 
 pub returns-then-not-starts : goal.returns-then-not-starts

@@ -3,8 +3,7 @@ use Rattle.std.specs.Option.{option_copied}
 use Rattle.pc_ann.specs.declared.annotation.Note.{Note}
 use Rattle.pc_valid.specs.Words.{before}
 use Rattle.pc_rules.specs.Rules as spec
-use Rattle.pc_rules.proofs.Derivations.{holds_by}
-use Rattle.pc_rules.proofs.Deciding.{none_there}
+use Rattle.pc_rules.proofs.{Derivations.holds_by, Deciding.none_there}
 use Rattle.pc_rules.proofs.rules.holds.Goals as goal
 
 pub returns-in-None : goal.returns-in-None

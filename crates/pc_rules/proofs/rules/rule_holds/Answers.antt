@@ -1,7 +1,6 @@
 use Rattle.std.proofs.Common.{◌<◌, ◌∙◌, ap, sym, subst}
 use Rattle.std.specs.Option.{option_copied}
-use Rattle.pc_rules.proofs.Derivations.{met_by}
-use Rattle.pc_rules.proofs.Deciding.{none_there, rule_by}
+use Rattle.pc_rules.proofs.{Derivations.met_by, Deciding.{none_there, rule_by}}
 use Rattle.pc_rules.proofs.rules.rule_holds.Goals as goal
 
 pub returns-in-Some-Some : goal.returns-in-Some-Some

@@ -1,9 +1,7 @@
 use Rattle.std.proofs.Common.{◌∙◌, ◌++◌, [], ap, subst}
 use Rattle.pc_semantics.specs.Text.{lines}
 use Rattle.pc_io.specs.Sink.{change}
-use Rattle.pc_run.specs.declared.counts.Progress.{Progress}
-use Rattle.pc_run.specs.declared.counts.Progress.TheVariants.{Going, TooLong}
-use Rattle.pc_run.specs.Underway.{ReachedSoFar}
+use Rattle.pc_run.specs.{declared.counts.Progress.Progress, declared.counts.Progress.TheVariants.{Going, TooLong}, Underway.ReachedSoFar}
 use Rattle.pc_run.proofs.Whole.{answers_stopped, cut_writes, going_answers, going_writes, summary_stopped, texts_stopped}
 use Rattle.pc_run.proofs.running.put_run.Goals as goal
 

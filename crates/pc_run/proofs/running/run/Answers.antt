@@ -1,8 +1,6 @@
 use Rattle.std.proofs.Common.{[], sym, subst}
 use Rattle.pc_core.specs.CoreData.{CoreData}
-use Rattle.pc_run.specs.Ends.{IsAnswer, WritesText}
-use Rattle.pc_run.specs.Spreading.{spread}
-use Rattle.pc_run.specs.Underway.{ReachedSoFar}
+use Rattle.pc_run.specs.{Ends.{IsAnswer, WritesText}, Spreading.spread, Underway.ReachedSoFar}
 use Rattle.pc_run.proofs.Whole.{leaves_all}
 use Rattle.pc_run.proofs.running.run.Goals as goal
 

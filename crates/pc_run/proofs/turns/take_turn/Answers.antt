@@ -1,7 +1,6 @@
 use Rattle.std.proofs.Common.{◌+◌, ◌∙◌, drop}
-use Rattle.pc_run.specs.Spreading.{spread}
+use Rattle.pc_run.specs.{Spreading.spread, declared.counts.Progress.TheVariants.{Going, TooLong}}
 use Rattle.pc_run.proofs.Stepping.{refused, turn_never_lacks, turn_stepped}
-use Rattle.pc_run.specs.declared.counts.Progress.TheVariants.{Going, TooLong}
 use Rattle.pc_run.proofs.turns.take_turn.Goals as goal
 
 pub returns-in_err-outcome-clause-err : goal.returns-in_err-outcome-clause-err

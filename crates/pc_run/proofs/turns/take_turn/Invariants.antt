@@ -1,6 +1,5 @@
 use Rattle.std.proofs.Common.{◌≡◌, ◌+◌, ◌-◌, ◌++◌, drop, replicate}
-use Rattle.pc_run.specs.Spreading.{spread}
-use Rattle.pc_run.specs.Underway.{Underway}
+use Rattle.pc_run.specs.{Spreading.spread, Underway.Underway}
 use Rattle.pc_run.proofs.turns.take_turn.Given as goal
 
 abbrev pub invariant-loop-step : goal.invariant-loop-step

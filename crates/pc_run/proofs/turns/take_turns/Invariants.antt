@@ -1,6 +1,5 @@
 use Rattle.std.proofs.Common.{◌≡◌, drop}
-use Rattle.pc_run.specs.Spreading.{spread}
-use Rattle.pc_run.specs.Underway.{Underway}
+use Rattle.pc_run.specs.{Spreading.spread, Underway.Underway}
 use Rattle.pc_run.proofs.turns.take_turns.Given as goal
 
 abbrev pub invariant-loop-at : goal.invariant-loop-at

@@ -1,9 +1,8 @@
 use Rattle.std.proofs.Common.{◌≡◌, ℕ, ◌+◌, ◌<◌, List, ◌++◌, length, take, drop, ap, ◌∙◌, subst, arith}
-use Rattle.pc_lists.specs.Lists.{line_end}
+use Rattle.pc_base.specs.Lists.{line_end}
 use Rattle.pc_semantics.specs.Text.{lines}
-use Rattle.pc_run.specs.declared.report.RunFault.TheVariants.{Memory}
+use Rattle.pc_run.specs.{declared.report.RunFault.TheVariants.Memory, Writing.WriteStops}
 use Rattle.pc_io.specs.Sink.{change}
-use Rattle.pc_run.specs.Writing.{WriteStops}
 use Rattle.pc_run.proofs.Written.{ended_by, grows_whole, lines_next, lines_parts, stops_more, stops_on}
 use Rattle.pc_run.proofs.writing.put_texts.Goals as goal
 

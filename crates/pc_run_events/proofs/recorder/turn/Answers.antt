@@ -1,6 +1,5 @@
 use Rattle.std.proofs.Common.{◌+◌, ap, refl}
-use Rattle.pc_run_events.specs.Events.{touches_in}
-use Rattle.pc_run_events.specs.declared.sight.Sight.{Sight}
+use Rattle.pc_run_events.specs.{Events.touches_in, declared.sight.Sight.Sight}
 use Rattle.pc_run_events.proofs.Turning.{row_there, touches_made, under_moves, under_skips}
 use Rattle.pc_run_events.proofs.recorder.turn.Goals as goal
 use Rattle.pc_trace.proofs.Turning.{says_moved, says_skipped, turn_ends, turn_full, turn_moves, turn_ready, turn_skips}

@@ -1,6 +1,5 @@
 use Rattle.pc_run_events.specs.Events.{touches_in}
-use Rattle.pc_run_events.proofs.Naming.{all_named}
-use Rattle.pc_run_events.proofs.Turning.{all_events}
+use Rattle.pc_run_events.proofs.{Naming.all_named, Turning.all_events}
 use Rattle.pc_run_events.proofs.safe.accepted_events.Goals as goal
 use Rattle.pc_trace.proofs.Whole.{never_lacks, told_safe}
 

@@ -1,8 +1,7 @@
 use Rattle.std.specs.Prelude.{List, ℕ}
 use Rattle.std.proofs.Common.{sym, subst}
 use Rattle.pc_core.specs.CoreData.{CoreData}
-use Rattle.pc_semantics.specs.Step.{after}
-use Rattle.pc_semantics.specs.Safety.{LacksNothing}
+use Rattle.pc_semantics.specs.{Step.after, Safety.LacksNothing}
 use Rattle.pc_safe.proofs.runs.accepted_runs.Goals as goal
 
 pub take_steps-requires-clause-never_lacks : goal.take_steps-requires-clause-never_lacks

@@ -1,5 +1,4 @@
-use Rattle.std.proofs.Common.{arith}
-use Rattle.std.proofs.lemmas.Result.{err_from_is_err_and}
+use Rattle.std.proofs.{Common.arith, lemmas.Result.err_from_is_err_and}
 use Rattle.pc_sched.proofs.Reached.{goes_on, nearer, ends_so, stuck_so}
 use Rattle.pc_sched.proofs.reading.read_all.Goals as goal
 

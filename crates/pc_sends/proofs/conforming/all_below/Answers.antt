@@ -1,10 +1,8 @@
 use Rattle.std.proofs.Common.{ℕ, length, ◌+◌, ap, sym, subst, ◌∙◌, arith}
 use Rattle.pc_sends.specs.Tables.{MayBe}
-use Rattle.pc_sends.proofs.Filtered.{Filtered, filtered_none, filtered_push, filtered_skip, filtered_all}
-use Rattle.pc_sends.proofs.Listed.{may_be_below}
-use Rattle.pc_lists.proofs.Bools.{no_both}
+use Rattle.pc_sends.proofs.{Filtered.{Filtered, filtered_none, filtered_push, filtered_skip, filtered_all}, Listed.may_be_below, conforming.all_below.Goals.{then-may_be+in_ok-push, else-may_be}}
+use Rattle.pc_base.proofs.Bools.{no_both}
 use Rattle.pc_sends.proofs.conforming.all_below.Goals as goal
-use Rattle.pc_sends.proofs.conforming.all_below.Goals.{then-may_be+in_ok-push, else-may_be}
 
 pub loop-entity-init : goal.loop-entity-init
 loop-entity-init c = subst (Filtered (λ (d : ℕ). MayBe c.args.core.now d c.args.known) 0) (sym c.new-entities.ensures) (filtered_none _)

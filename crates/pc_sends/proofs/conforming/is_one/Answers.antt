@@ -1,6 +1,5 @@
-use Rattle.std.proofs.Common.{inl, inr}
-use Rattle.std.proofs.lemmas.Bool.{eq-eqb}
-use Rattle.pc_lists.proofs.Bools.{no_both}
+use Rattle.std.proofs.{Common.{inl, inr}, lemmas.Bool.eq-eqb}
+use Rattle.pc_base.proofs.Bools.{no_both}
 use Rattle.pc_sends.proofs.conforming.is_one.Goals as goal
 
 pub returns-then-entity-known : goal.returns-then-entity-known

@@ -1,6 +1,5 @@
-use Rattle.std.proofs.Common.{◌∙◌}
-use Rattle.std.proofs.lemmas.Option.{none-some}
-use Rattle.pc_lists.proofs.Bools.{false_true}
+use Rattle.std.proofs.{Common.◌∙◌, lemmas.Option.none-some}
+use Rattle.pc_base.proofs.Bools.{false_true}
 use Rattle.pc_sends.proofs.conforming.may_be.Goals as goal
 
 pub returns-in-None : goal.returns-in-None

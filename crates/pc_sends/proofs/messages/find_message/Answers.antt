@@ -1,9 +1,7 @@
-use Rattle.std.proofs.Common.{sym, subst}
-use Rattle.std.proofs.lemmas.Result.{on_ok_weaker}
-use Rattle.pc_lists.proofs.Bools.{no_both}
+use Rattle.std.proofs.{Common.{sym, subst}, lemmas.Result.on_ok_weaker}
+use Rattle.pc_base.proofs.Bools.{no_both}
 use Rattle.pc_sends.specs.Reached.{IsMessage}
-use Rattle.pc_sends.proofs.Grows.{grown_there}
-use Rattle.pc_sends.proofs.Sent.{MessageOf, message_found}
+use Rattle.pc_sends.proofs.{Grows.grown_there, Sent.{MessageOf, message_found}}
 use Rattle.pc_sends.proofs.messages.find_message.Goals as goal
 
 pub returns-then-is_message_at : goal.returns-then-is_message_at

@@ -1,7 +1,5 @@
-use Rattle.std.proofs.Common.{[], get_or}
-use Rattle.std.proofs.lemmas.Option.{slice_get-get_or}
-use Rattle.pc_sends.proofs.Grows.{list_turn, list_all}
-use Rattle.pc_sends.proofs.Sent.{MessageOf}
+use Rattle.std.proofs.{Common.{[], get_or}, lemmas.Option.slice_get-get_or}
+use Rattle.pc_sends.proofs.{Grows.{list_turn, list_all}, Sent.MessageOf}
 use Rattle.pc_sends.proofs.messages.messages_of.Goals as goal
 
 pub loop-number-preserved : goal.loop-number-preserved

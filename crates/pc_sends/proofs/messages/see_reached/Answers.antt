@@ -1,8 +1,7 @@
 use Rattle.std.proofs.lemmas.Result.{on_ok_weaker}
-use Rattle.pc_lists.proofs.Bools.{no_both}
+use Rattle.pc_base.proofs.Bools.{no_both}
 use Rattle.pc_sends.specs.Reached.{ReachedUses}
-use Rattle.pc_sends.proofs.Grows.{grown_there}
-use Rattle.pc_sends.proofs.Sent.{reached_uses}
+use Rattle.pc_sends.proofs.{Grows.grown_there, Sent.reached_uses}
 use Rattle.pc_sends.proofs.messages.see_reached.Goals as goal
 
 pub returns-then-has-clause-grown : goal.returns-then-has-clause-grown

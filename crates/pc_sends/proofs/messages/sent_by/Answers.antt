@@ -1,9 +1,6 @@
-use Rattle.std.proofs.Common.{ℕ, List, [], subst, ◌∙◌}
-use Rattle.std.proofs.lemmas.Result.{IfOk-weaker}
-use Rattle.pc_sends.specs.Growth.{Grown, OfSome, Sorts}
-use Rattle.pc_sends.specs.Reached.{AreSent}
-use Rattle.pc_sends.proofs.Sent.{MessageOf, are_sent}
-use Rattle.pc_sends.proofs.Tests.{grown_differ}
+use Rattle.std.proofs.{Common.{ℕ, List, [], subst, ◌∙◌}, lemmas.Result.IfOk-weaker}
+use Rattle.pc_sends.specs.{Growth.{Grown, OfSome, Sorts}, Reached.AreSent}
+use Rattle.pc_sends.proofs.{Sent.{MessageOf, are_sent}, Tests.grown_differ}
 use Rattle.pc_sends.proofs.messages.sent_by.Goals as goal
 
 pub ascending-requires : goal.ascending-requires

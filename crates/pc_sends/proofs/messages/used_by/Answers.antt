@@ -1,8 +1,6 @@
-use Rattle.std.proofs.Common.{◌+◌, ℕ, List, [], sym, subst, arith}
-use Rattle.std.proofs.lemmas.Result.{IfOk-weaker}
+use Rattle.std.proofs.{Common.{◌+◌, ℕ, List, [], sym, subst, arith}, lemmas.Result.IfOk-weaker}
 use Rattle.pc_core.specs.Members.{methods_within}
-use Rattle.pc_sends.specs.Growth.{Grown, TurnsBelow}
-use Rattle.pc_sends.specs.Reached.{ReachedUses, IsUsed}
+use Rattle.pc_sends.specs.{Growth.{Grown, TurnsBelow}, Reached.{ReachedUses, IsUsed}}
 use Rattle.pc_sends.proofs.Sent.{entity_used, none_used}
 use Rattle.pc_sends.proofs.messages.used_by.Goals as goal
 

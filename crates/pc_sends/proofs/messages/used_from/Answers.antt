@@ -1,8 +1,6 @@
 use Rattle.std.proofs.Common.{◌≡◌, ℕ, [], sym, subst, arith}
-use Rattle.pc_sends.specs.Growth.{Grown, TurnsBelow}
-use Rattle.pc_sends.specs.Reached.{ReachedUses}
-use Rattle.pc_sends.proofs.Grows.{grown_none, grown_turn}
-use Rattle.pc_sends.proofs.Walking.{known_none}
+use Rattle.pc_sends.specs.{Growth.{Grown, TurnsBelow}, Reached.ReachedUses}
+use Rattle.pc_sends.proofs.{Grows.{grown_none, grown_turn}, Walking.known_none}
 use Rattle.pc_sends.proofs.messages.used_from.Goals as goal
 
 pub loop-number-init : goal.loop-number-init

@@ -1,7 +1,5 @@
 use Rattle.std.proofs.Common.{[]}
-use Rattle.pc_sends.specs.Growth.{Grown, TurnsBelow}
-use Rattle.pc_sends.specs.Found.{CallsAreFound}
-use Rattle.pc_sends.specs.Reached.{ReachedUses}
+use Rattle.pc_sends.specs.{Growth.{Grown, TurnsBelow}, Found.CallsAreFound, Reached.ReachedUses}
 use Rattle.pc_sends.proofs.messages.used_from.Given as goal
 
 abbrev pub invariant-loop-number : goal.invariant-loop-number

@@ -1,7 +1,6 @@
-use Rattle.std.proofs.Common.{ap, sym, subst, ◌∙◌}
-use Rattle.std.proofs.lemmas.Option.{same_Some, none-some}
+use Rattle.std.proofs.{Common.{ap, sym, subst, ◌∙◌}, lemmas.Option.{same_Some, none-some}}
 use Rattle.pc_core.specs.declared.declarations.Method.{Method}
-use Rattle.pc_lists.proofs.Bools.{false_true, no_both}
+use Rattle.pc_base.proofs.Bools.{false_true, no_both}
 use Rattle.pc_sends.specs.Tables.{is_message, IsOwnActor}
 use Rattle.pc_sends.proofs.never.is_of_actor.Goals as goal
 

@@ -1,8 +1,6 @@
-use Rattle.std.proofs.Common.{ap, sym, ◌∙◌, arith}
-use Rattle.std.proofs.lemmas.Option.{same_Some, none-some}
-use Rattle.std.proofs.lemmas.Bool.{leb-true}
+use Rattle.std.proofs.{Common.{ap, sym, ◌∙◌, arith}, lemmas.Option.{same_Some, none-some}, lemmas.Bool.leb-true}
 use Rattle.pc_core.specs.declared.declarations.EntityDef.{EntityDef}
-use Rattle.pc_lists.proofs.Bools.{false_true}
+use Rattle.pc_base.proofs.Bools.{false_true}
 use Rattle.pc_sends.proofs.never.is_own_actor.Goals as goal
 
 pub returns-then-entity-ge-FIRST_OWN : goal.returns-then-entity-ge-FIRST_OWN

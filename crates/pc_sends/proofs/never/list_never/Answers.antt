@@ -1,10 +1,8 @@
 use Rattle.std.proofs.Common.{◌+◌, length, ap, sym, subst, ◌∙◌, arith}
-use Rattle.pc_lists.proofs.Bools.{no_both}
+use Rattle.pc_base.proofs.Bools.{no_both}
 use Rattle.pc_sends.specs.Unsent.{IsUnsent}
-use Rattle.pc_sends.proofs.Filtered.{Filtered, filtered_none, filtered_push, filtered_skip, filtered_all}
-use Rattle.pc_sends.proofs.Tabled.{unsent_to, unsent_from, unsent_below}
+use Rattle.pc_sends.proofs.{Filtered.{Filtered, filtered_none, filtered_push, filtered_skip, filtered_all}, Tabled.{unsent_to, unsent_from, unsent_below}, never.list_never.Goals.{then-is_unsent+in_ok-push, else-is_unsent}}
 use Rattle.pc_sends.proofs.never.list_never.Goals as goal
-use Rattle.pc_sends.proofs.never.list_never.Goals.{then-is_unsent+in_ok-push, else-is_unsent}
 
 pub loop-number-init : goal.loop-number-init
 loop-number-init c = subst (Filtered (IsUnsent c.args.core.now c.args.rows.now) 0) (sym c.new-numbers.ensures) (filtered_none _)

@@ -1,8 +1,6 @@
-use Rattle.std.proofs.Common.{[], get_or}
-use Rattle.std.proofs.lemmas.Option.{slice_get-get_or}
+use Rattle.std.proofs.{Common.{[], get_or}, lemmas.Option.slice_get-get_or}
 use Rattle.pc_sends.specs.declared.table.Row.{Row}
-use Rattle.pc_sends.proofs.Grows.{list_turn, list_all}
-use Rattle.pc_sends.proofs.Tabled.{TargetOf, targets_are}
+use Rattle.pc_sends.proofs.{Grows.{list_turn, list_all}, Tabled.{TargetOf, targets_are}}
 use Rattle.pc_sends.proofs.never.targets_of.Goals as goal
 
 pub loop-row-preserved : goal.loop-row-preserved

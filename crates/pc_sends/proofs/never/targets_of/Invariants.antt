@@ -1,7 +1,6 @@
 use Rattle.std.proofs.Common.{[]}
 use Rattle.pc_sends.specs.Growth.{Grown, TurnsBelow}
-use Rattle.pc_sends.proofs.Grows.{At}
-use Rattle.pc_sends.proofs.Tabled.{TargetOf}
+use Rattle.pc_sends.proofs.{Grows.At, Tabled.TargetOf}
 use Rattle.pc_sends.proofs.never.targets_of.Given as goal
 
 abbrev pub invariant-loop-row : goal.invariant-loop-row

@@ -1,6 +1,5 @@
 use Rattle.std.proofs.Common.{length, ap, sym, arith}
-use Rattle.pc_sends.proofs.Closing.{found_next, nothing_left, all_turns}
-use Rattle.pc_sends.proofs.Walking.{known_none}
+use Rattle.pc_sends.proofs.{Closing.{found_next, nothing_left, all_turns}, Walking.known_none}
 use Rattle.pc_sends.proofs.reaching.reach.Goals as goal
 
 pub returns-in-None : goal.returns-in-None

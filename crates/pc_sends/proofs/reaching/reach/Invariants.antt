@@ -1,5 +1,4 @@
-use Rattle.pc_sends.specs.Found.{CallsAreFound}
-use Rattle.pc_sends.specs.Reached.{Found}
+use Rattle.pc_sends.specs.{Found.CallsAreFound, Reached.Found}
 use Rattle.pc_sends.proofs.reaching.reach.Given as goal
 
 abbrev pub invariant-loop-at : goal.invariant-loop-at

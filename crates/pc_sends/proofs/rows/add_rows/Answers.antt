@@ -1,7 +1,5 @@
-use Rattle.std.proofs.Common.{◌++◌, ◌∷◌, [], List, map, take, get_or, ap, sym, ◌∙◌, append_assoc}
-use Rattle.std.proofs.lemmas.List.{map_more}
-use Rattle.pc_sends.specs.declared.table.Row.{Row}
-use Rattle.pc_sends.specs.Tables.{row}
+use Rattle.std.proofs.{Common.{◌++◌, ◌∷◌, [], List, map, take, get_or, ap, sym, ◌∙◌, append_assoc}, lemmas.List.map_more}
+use Rattle.pc_sends.specs.{declared.table.Row.Row, Tables.row}
 use Rattle.pc_sends.proofs.rows.add_rows.Goals as goal
 
 pub loop-target-preserved : goal.loop-target-preserved

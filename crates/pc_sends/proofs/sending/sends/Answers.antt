@@ -1,9 +1,6 @@
-use Rattle.std.proofs.Common.{ℕ, List, sym, subst}
-use Rattle.std.proofs.lemmas.Result.{IfOk-weaker}
+use Rattle.std.proofs.{Common.{ℕ, List, sym, subst}, lemmas.Result.IfOk-weaker}
 use Rattle.pc_semantics.specs.Step.{after}
-use Rattle.pc_sends.specs.Found.{ListsMayBe}
-use Rattle.pc_sends.specs.Tables.{IsTable, TableTells}
-use Rattle.pc_sends.specs.declared.table.Table.{Table}
+use Rattle.pc_sends.specs.{Found.ListsMayBe, Tables.{IsTable, TableTells}, declared.table.Table.Table}
 use Rattle.pc_sends.proofs.Tabled.{table_tells}
 use Rattle.pc_sends.proofs.sending.sends.Goals as goal
 

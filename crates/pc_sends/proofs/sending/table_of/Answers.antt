@@ -1,7 +1,6 @@
 use Rattle.std.proofs.Common.{◌↔◌, ℕ, List, subst}
-use Rattle.pc_lists.specs.Lists.{Has}
-use Rattle.pc_sends.specs.declared.table.Row.{Row}
-use Rattle.pc_sends.specs.Unsent.{IsUnsent}
+use Rattle.pc_base.specs.Lists.{Has}
+use Rattle.pc_sends.specs.{declared.table.Row.Row, Unsent.IsUnsent}
 use Rattle.pc_sends.proofs.Tabled.{table_made}
 use Rattle.pc_sends.proofs.sending.table_of.Goals as goal
 

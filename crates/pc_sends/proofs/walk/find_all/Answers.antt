@@ -1,7 +1,5 @@
-use Rattle.std.proofs.Common.{get_or}
-use Rattle.std.proofs.lemmas.Option.{slice_get-get_or}
-use Rattle.pc_sends.proofs.Grows.{At, grown_none, list_turn, list_all}
-use Rattle.pc_sends.proofs.Walking.{CalledIn}
+use Rattle.std.proofs.{Common.get_or, lemmas.Option.slice_get-get_or}
+use Rattle.pc_sends.proofs.{Grows.{At, grown_none, list_turn, list_all}, Walking.CalledIn}
 use Rattle.pc_sends.proofs.walk.find_all.Goals as goal
 
 pub loop-entity-init : goal.loop-entity-init

@@ -1,6 +1,5 @@
 use Rattle.pc_sends.specs.Growth.{Grown, TurnsBelow}
-use Rattle.pc_sends.proofs.Grows.{At}
-use Rattle.pc_sends.proofs.Walking.{CalledIn}
+use Rattle.pc_sends.proofs.{Grows.At, Walking.CalledIn}
 use Rattle.pc_sends.proofs.walk.find_all.Given as goal
 
 abbrev pub invariant-loop-entity : goal.invariant-loop-entity

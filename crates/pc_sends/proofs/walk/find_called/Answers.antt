@@ -1,8 +1,5 @@
-use Rattle.std.proofs.Common.{◌≡◌, ℕ, Some, ap, sym, ◌∙◌}
-use Rattle.std.proofs.lemmas.Option.{same_Some}
-use Rattle.std.proofs.lemmas.Result.{on_ok_weaker}
-use Rattle.pc_sends.proofs.Grows.{grown_same}
-use Rattle.pc_sends.proofs.Walking.{CalledIn}
+use Rattle.std.proofs.{Common.{◌≡◌, ℕ, Some, ap, sym, ◌∙◌}, lemmas.Option.same_Some, lemmas.Result.on_ok_weaker}
+use Rattle.pc_sends.proofs.{Grows.grown_same, Walking.CalledIn}
 use Rattle.pc_sends.proofs.walk.find_called.Goals as goal
 
 pub returns-in-Some : goal.returns-in-Some

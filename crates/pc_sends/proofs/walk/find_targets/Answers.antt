@@ -1,5 +1,4 @@
-use Rattle.std.proofs.Common.{ℕ, List, sym, subst}
-use Rattle.std.proofs.lemmas.Result.{on_ok_weaker}
+use Rattle.std.proofs.{Common.{ℕ, List, sym, subst}, lemmas.Result.on_ok_weaker}
 use Rattle.pc_sends.specs.Growth.{Grown, OfSome}
 use Rattle.pc_sends.proofs.Walking.{CalledIn, targets_found, targets_none}
 use Rattle.pc_sends.proofs.walk.find_targets.Goals as goal

@@ -1,7 +1,6 @@
 use Rattle.std.proofs.lemmas.Result.{on_ok_weaker}
 use Rattle.pc_sends.specs.Tables.{MayCall}
-use Rattle.pc_sends.proofs.Grows.{grown_there}
-use Rattle.pc_sends.proofs.Walking.{known_call}
+use Rattle.pc_sends.proofs.{Grows.grown_there, Walking.known_call}
 use Rattle.pc_sends.proofs.walk.see_call.Goals as goal
 
 pub returns-then-has-clause-grown : goal.returns-then-has-clause-grown

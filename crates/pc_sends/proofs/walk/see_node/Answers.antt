@@ -1,5 +1,4 @@
-use Rattle.std.proofs.Common.{inl, inr, ap, sym, ◌∙◌}
-use Rattle.std.proofs.lemmas.Result.{on_ok_weaker}
+use Rattle.std.proofs.{Common.{inl, inr, ap, sym, ◌∙◌}, lemmas.Result.on_ok_weaker}
 use Rattle.pc_sends.specs.Tables.{noted_receiver}
 use Rattle.pc_sends.proofs.Walking.{aims_made, aims_call, known_grown}
 use Rattle.pc_sends.proofs.walk.see_node.Goals as goal

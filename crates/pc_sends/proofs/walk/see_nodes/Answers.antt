@@ -1,7 +1,5 @@
-use Rattle.std.proofs.Common.{length, refl}
-use Rattle.std.proofs.lemmas.Option.{slice_get_read}
-use Rattle.pc_sends.proofs.Grows.{At, grown_none, list_turn, list_all}
-use Rattle.pc_sends.proofs.Walking.{NodeAims}
+use Rattle.std.proofs.{Common.{length, refl}, lemmas.Option.slice_get_read}
+use Rattle.pc_sends.proofs.{Grows.{At, grown_none, list_turn, list_all}, Walking.NodeAims}
 use Rattle.pc_sends.proofs.walk.see_nodes.Goals as goal
 
 pub loop-node-init : goal.loop-node-init

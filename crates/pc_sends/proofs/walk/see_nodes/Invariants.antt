@@ -1,7 +1,5 @@
-use Rattle.pc_sends.specs.Growth.{Grown, TurnsBelow}
-use Rattle.pc_sends.specs.Found.{CallsAreFound}
-use Rattle.pc_sends.proofs.Grows.{At}
-use Rattle.pc_sends.proofs.Walking.{NodeAims}
+use Rattle.pc_sends.specs.{Growth.{Grown, TurnsBelow}, Found.CallsAreFound}
+use Rattle.pc_sends.proofs.{Grows.At, Walking.NodeAims}
 use Rattle.pc_sends.proofs.walk.see_nodes.Given as goal
 
 abbrev pub invariant-loop-node : goal.invariant-loop-node

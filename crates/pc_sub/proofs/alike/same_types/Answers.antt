@@ -1,6 +1,6 @@
 use Rattle.std.proofs.Common.{sym, ◌∙◌, arith}
 use Rattle.std.specs.Prelude.{drop}
-use Rattle.pc_lists.proofs.Cuts.{left_over}
+use Rattle.pc_base.proofs.Cuts.{left_over}
 use Rattle.pc_sub.proofs.SameTypes.{too_few}
 use Rattle.pc_sub.proofs.alike.same_types.Goals as goal
 

@@ -1,6 +1,6 @@
 use Rattle.std.specs.Prelude.{◌↔◌, Bool, IsTrue}
 use Rattle.std.proofs.Common.{sym, subst}
-use Rattle.pc_lists.specs.Lists.{Has}
+use Rattle.pc_base.specs.Lists.{Has}
 use Rattle.pc_sub.proofs.Searched.{exact}
 use Rattle.pc_sub.proofs.chains.contains.Goals as goal
 

@@ -1,7 +1,6 @@
 use Rattle.std.proofs.Common.{ℕ, List, sym, subst, ◌∙◌, ap}
-use Rattle.std.specs.Prelude.{slice_get}
-use Rattle.std.specs.Option.{option_copied}
-use Rattle.pc_lists.specs.Lists.{Ascends}
+use Rattle.std.specs.{Prelude.slice_get, Option.option_copied}
+use Rattle.pc_base.specs.Lists.{Ascends}
 use Rattle.pc_sub.proofs.chains.leads.Goals as goal
 
 pub contains-requires : goal.contains-requires

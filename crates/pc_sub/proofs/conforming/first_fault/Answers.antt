@@ -1,8 +1,6 @@
 use Rattle.std.proofs.Common.{◌+◌, ◌<◌, ◌^◌, length, sym, ap, subst, ◌∙◌}
-use Rattle.std.specs.Prelude.{List}
-use Rattle.std.specs.Option.{option_copied}
-use Rattle.pc_core.specs.declared.declarations.Method.{Method}
-use Rattle.pc_core.specs.Members.{methods_within, own_methods_within}
+use Rattle.std.specs.{Prelude.List, Option.option_copied}
+use Rattle.pc_core.specs.{declared.declarations.Method.Method, Members.{methods_within, own_methods_within}}
 use Rattle.pc_sub.proofs.conforming.first_fault.Goals as goal
 
 pub methods_of-requires : goal.methods_of-requires

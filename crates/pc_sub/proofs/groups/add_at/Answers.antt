@@ -1,5 +1,4 @@
-use Rattle.std.proofs.Common.{ap, length, arith}
-use Rattle.std.proofs.lemmas.List.{length-set}
+use Rattle.std.proofs.{Common.{ap, length, arith}, lemmas.List.length-set}
 use Rattle.pc_sub.proofs.Grouping.{add_is}
 use Rattle.pc_sub.proofs.groups.add_at.Goals as goal
 

@@ -1,7 +1,6 @@
 use Rattle.std.proofs.Common.{sym}
 use Rattle.pc_core.specs.declared.declarations.Method.{Method}
-use Rattle.pc_sub.specs.Alike.{Alike}
-use Rattle.pc_sub.specs.Groups.{first_of}
+use Rattle.pc_sub.specs.{Alike.Alike, Groups.first_of}
 use Rattle.pc_sub.proofs.Optional.{none_of, some_of}
 use Rattle.pc_sub.proofs.groups.is_group_of.Goals as goal
 

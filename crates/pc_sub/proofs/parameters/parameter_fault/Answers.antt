@@ -1,6 +1,5 @@
 use Rattle.std.proofs.Common.{sym, ap, ◌∙◌, ◌+◌}
-use Rattle.pc_sub.proofs.Turns.{parameters_stop, parameters_pass}
-use Rattle.pc_sub.proofs.Counts.{few_params}
+use Rattle.pc_sub.proofs.{Turns.{parameters_stop, parameters_pass}, Counts.few_params}
 use Rattle.pc_sub.proofs.parameters.parameter_fault.Goals as goal
 
 pub own_fault-requires : goal.own_fault-requires

@@ -1,5 +1,4 @@
-use Rattle.std.proofs.Common.{◌∙◌, arith, get_or}
-use Rattle.std.proofs.lemmas.Option.{slice_get-get_or}
+use Rattle.std.proofs.{Common.{◌∙◌, arith, get_or}, lemmas.Option.slice_get-get_or}
 use Rattle.pc_core.specs.EntitySets.{Holds}
 use Rattle.pc_sub.proofs.Looked.{added_next, added_all}
 use Rattle.pc_sub.proofs.serving.add_all.Goals as goal

@@ -1,7 +1,7 @@
 use Rattle.std.proofs.Common.{sym, ◌∙◌, arith}
 use Rattle.std.specs.Prelude.{drop}
 use Rattle.pc_sub.proofs.Turns.{too_few}
-use Rattle.pc_lists.proofs.Cuts.{left_over}
+use Rattle.pc_base.proofs.Cuts.{left_over}
 use Rattle.pc_sub.proofs.stands.params_fit.Goals as goal
 
 pub returns-in-empty : goal.returns-in-empty

@@ -1,5 +1,5 @@
 use Rattle.std.proofs.Common.{◌≡◌, ℕ, ◌<◌, length}
-use Rattle.pc_lists.specs.Lists.{Each}
+use Rattle.pc_base.specs.Lists.{Each}
 use Rattle.pc_core.specs.EntitySets.{Holds}
 use Rattle.pc_sub.proofs.tables.all_sets.Given as goal
 

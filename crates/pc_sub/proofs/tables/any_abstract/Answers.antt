@@ -1,6 +1,5 @@
-use Rattle.std.proofs.Common.{inl, inr, get_or, refl, subst}
-use Rattle.std.proofs.lemmas.Option.{slice_get-get_or}
-use Rattle.pc_lists.proofs.Bools.{false_true, no_both}
+use Rattle.std.proofs.{Common.{inl, inr, get_or, refl, subst}, lemmas.Option.slice_get-get_or}
+use Rattle.pc_base.proofs.Bools.{false_true, no_both}
 use Rattle.pc_core.specs.Further.{IsAbstract}
 use Rattle.pc_sub.proofs.Looked.{has_all, has_next}
 use Rattle.pc_sub.proofs.tables.any_abstract.Goals as goal

@@ -1,8 +1,6 @@
-use Rattle.std.proofs.Common.{get_or}
-use Rattle.std.proofs.lemmas.Option.{slice_get-get_or}
-use Rattle.pc_lists.specs.Lists.{Has}
-use Rattle.pc_sub.proofs.Looked.{HasTo, all_has, has_all, has_none}
-use Rattle.pc_sub.proofs.Telling.{kept_next, kept_none, kept_same}
+use Rattle.std.proofs.{Common.get_or, lemmas.Option.slice_get-get_or}
+use Rattle.pc_base.specs.Lists.{Has}
+use Rattle.pc_sub.proofs.{Looked.{HasTo, all_has, has_all, has_none}, Telling.{kept_next, kept_none, kept_same}}
 use Rattle.pc_sub.proofs.tables.keep_all.Goals as goal
 
 pub loop-entity-init : goal.loop-entity-init

@@ -1,11 +1,9 @@
-use Rattle.std.proofs.Common.{◌≡◌, ◌<◌, Some, ap, sym, subst, length, ◌∙◌, [], arith}
+use Rattle.std.proofs.{Common.{◌≡◌, ◌<◌, Some, ap, sym, subst, length, ◌∙◌, [], arith}, lemmas.Option.{none-some, slice_get-get_or}}
 use Rattle.std.specs.Prelude.{ℕ, List, None}
-use Rattle.std.proofs.lemmas.Option.{none-some, slice_get-get_or}
-use Rattle.pc_lists.specs.Lists.{Has}
-use Rattle.pc_lists.proofs.Bools.{no_both}
+use Rattle.pc_base.specs.Lists.{Has}
+use Rattle.pc_base.proofs.Bools.{no_both}
 use Rattle.pc_sub.specs.Groups.{IsGroup, first_of}
-use Rattle.pc_sub.proofs.Grouping.{first_within, list_some}
-use Rattle.pc_sub.proofs.Telling.{tells_next, tells_skip}
+use Rattle.pc_sub.proofs.{Grouping.{first_within, list_some}, Telling.{tells_next, tells_skip}}
 use Rattle.pc_sub.proofs.tables.keep_group.Goals as goal
 
 pub returns-in-None : goal.returns-in-None

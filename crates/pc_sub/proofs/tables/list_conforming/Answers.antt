@@ -1,5 +1,5 @@
 use Rattle.std.proofs.Common.{ℕ, ◌<◌, ap, length, subst, ◌∙◌, arith}
-use Rattle.pc_lists.specs.Lists.{Each}
+use Rattle.pc_base.specs.Lists.{Each}
 use Rattle.pc_core.specs.EntitySets.{Holds}
 use Rattle.pc_sub.proofs.Telling.{tells_all, tells_none}
 use Rattle.pc_sub.proofs.tables.list_conforming.Goals as goal

@@ -1,7 +1,6 @@
 use Rattle.std.proofs.Common.{List, ℕ, sym, subst}
 use Rattle.pc_core.specs.CoreData.{CoreData}
-use Rattle.pc_semantics.specs.Step.{after}
-use Rattle.pc_semantics.specs.Safety.{LacksNothing}
+use Rattle.pc_semantics.specs.{Step.after, Safety.LacksNothing}
 use Rattle.pc_swap.proofs.swapping.machine_after.Goals as goal
 
 pub take_steps-requires-clause-never_lacks : goal.take_steps-requires-clause-never_lacks

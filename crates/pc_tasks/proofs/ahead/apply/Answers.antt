@@ -1,10 +1,7 @@
 use Rattle.std.proofs.Common.{ap, sym, ◌∙◌}
 use Rattle.std.specs.Prelude.{Option}
-use Rattle.pc_core.specs.declared.nodes.Node.{Node}
-use Rattle.pc_core.specs.declared.nodes.NodeKind.{NodeKind}
-use Rattle.pc_semantics.specs.Ahead.{by_move}
-use Rattle.pc_semantics.specs.Evaluation.{apply_task}
-use Rattle.pc_semantics.specs.Parts.{at_node}
+use Rattle.pc_core.specs.{declared.nodes.Node.Node, declared.nodes.NodeKind.NodeKind}
+use Rattle.pc_semantics.specs.{Ahead.by_move, Evaluation.apply_task, Parts.at_node}
 use Rattle.pc_tasks.specs.Inside.{relieved}
 use Rattle.pc_tasks.proofs.ahead.apply.Goals as goal
 

@@ -1,8 +1,7 @@
 use Rattle.std.proofs.Common.{ap, ◌∙◌, List, ℕ}
 use Rattle.std.specs.Prelude.{Option}
 use Rattle.pc_core.specs.declared.nodes.Node.{Node}
-use Rattle.pc_semantics.specs.Parts.{loop_task, at_node}
-use Rattle.pc_semantics.specs.Ahead.{by_move}
+use Rattle.pc_semantics.specs.{Parts.{loop_task, at_node}, Ahead.by_move}
 use Rattle.pc_tasks.specs.Inside.{relieved}
 use Rattle.pc_tasks.proofs.ahead.go_round.Goals as goal
 

@@ -1,14 +1,11 @@
 use Rattle.std.proofs.Common.{◌≡◌, ap, sym, ◌∙◌, drop, List, Option, Some, None, ◌∷◌}
 use Rattle.std.specs.Prelude.{slice_set, unwrap_or}
-use Rattle.pc_lists.proofs.Gets.{set_back}
+use Rattle.pc_base.proofs.Gets.{set_back}
 use Rattle.pc_heap.specs.declared.value.Value.{Value}
-use Rattle.pc_semantics.specs.declared.frames.Frame.{Frame}
-use Rattle.pc_semantics.specs.declared.outcome.Outcome.TheVariants.{Lacks, Moved}
+use Rattle.pc_semantics.specs.{declared.frames.Frame.Frame, declared.outcome.Outcome.TheVariants.{Lacks, Moved}, Configurations.none}
 use Rattle.pc_semantics.specs.declared.outcome.Lack.TheVariants as lack
-use Rattle.pc_semantics.specs.Configurations.{none}
 use Rattle.pc_tasks.specs.Inside.{ended, relieved}
-use Rattle.pc_tasks.proofs.Written.{put_ends, both_less, one_less}
-use Rattle.pc_tasks.proofs.fields.write.Goals.{in-Some-before, in_default-before}
+use Rattle.pc_tasks.proofs.{Written.{put_ends, both_less, one_less}, fields.write.Goals.{in-Some-before, in_default-before}}
 use Rattle.pc_tasks.proofs.fields.write.Goals as goal
 
 pub returns-after-before-clause-end : goal.returns-after-before-clause-end

@@ -1,5 +1,4 @@
-use Rattle.pc_text_order.proofs.Bodies.{bodies_ascend}
-use Rattle.pc_text_order.proofs.Declarations.{declarations_ascend}
+use Rattle.pc_text_order.proofs.{Bodies.bodies_ascend, Declarations.declarations_ascend}
 use Rattle.pc_text_order.proofs.laws.names_are_in_order.Goals as goal
 
 pub returns : goal.returns

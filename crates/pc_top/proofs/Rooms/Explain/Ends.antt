@@ -2,25 +2,14 @@
 use Rattle.std.proofs.Common.{◌≡◌, ◌≤◌, length, Ok, Err, inr, refl, subst}
 use Rattle.std.specs.Prelude.{IfErr, Result}
 use Rattle.pc_elab.specs.Cores.{IsFirstFault}
-use Rattle.pc_lists.specs.Lists.{Text}
-use Rattle.pc_names.specs.Faults.{IsNotMemory}
-use Rattle.pc_names.specs.declared.fault.NameFault.{NameFault}
+use Rattle.pc_base.specs.Lists.{Text}
+use Rattle.pc_names.specs.{Faults.IsNotMemory, declared.fault.NameFault.NameFault}
 use Rattle.pc_places.specs.Text.{HasTokens}
 use Rattle.pc_tree.specs.Tree as t
-use Rattle.pc_refusals.specs.Source.After.{goes}
-use Rattle.pc_refusals.specs.Source.FromFile.{goes_on, refuses}
-use Rattle.pc_refusals.specs.Inner.Answering.{AnswersText}
-use Rattle.pc_refusals.specs.Inner.Stages.{StageEnds, StageStops}
-use Rattle.pc_refusals.specs.Verdict.{FailedAt, IsReadingOf, Named, whole, refused}
-use Rattle.pc_refusals.specs.Source.{SyntaxStage, source_limit}
-use Rattle.pc_refusals.specs.Source.Length.{fits}
-use Rattle.pc_refusals.specs.Source.Lexing.{lexed}
-use Rattle.pc_refusals.specs.declared.stop.Stop.{Stop}
-use Rattle.pc_refusals.specs.declared.stop.Stop.TheVariants.{File, Memory, Refused, Sink}
+use Rattle.pc_refusals.specs.{Source.After.goes, Source.FromFile.{goes_on, refuses}, Inner.Answering.AnswersText, Inner.Stages.{StageEnds, StageStops}, Verdict.{FailedAt, IsReadingOf, Named, whole, refused}, Source.{SyntaxStage, source_limit}, Source.Length.fits, Source.Lexing.lexed, declared.stop.Stop.Stop, declared.stop.Stop.TheVariants.{File, Memory, Refused, Sink}}
 use Rattle.pc_refusals.proofs.Stops.{stops_as}
-use Rattle.pc_core_commands.specs.Explain.{Explaining, IsFileFault}
-use Rattle.pc_top.specs.Commands.Explain.{ExplainedStage, IsExplain}
-use Rattle.pc_top.specs.Commands.Explain.ExplainedStage.{has_none, has_tree}
+use Rattle.pc_commands.specs.Explain.{Explaining, IsFileFault}
+use Rattle.pc_top.specs.{Commands.Explain.{ExplainedStage, IsExplain}, Commands.Explain.ExplainedStage.{has_none, has_tree}}
 use Rattle.pc_top.proofs.Facts.{member_fault}
 
 -- ---- a fault of a tree

@@ -1,27 +1,19 @@
 -- Any two ends of the stages of `explain` are equal.
 use Rattle.std.proofs.Common.{◌≡◌, List, Ok, Err, inl, inr, refl, ap, subst}
 use Rattle.std.specs.Prelude.{Result}
-use Rattle.pc_core.specs.CoreData.{CoreData}
-use Rattle.pc_core.specs.Formed.{Formed}
+use Rattle.pc_core.specs.{CoreData.CoreData, Formed.Formed}
 use Rattle.pc_core_relation.specs.Files.{IsCoreOf}
 use Rattle.pc_core_relation.proofs.Ones.{standing_cores_are_one}
 use Rattle.pc_lex.specs.Pieces.{TokenList}
-use Rattle.pc_lists.specs.Lists.{Text}
-use Rattle.pc_names.specs.Faults.{IsNotMemory}
-use Rattle.pc_names.specs.declared.fault.NameFault.{NameFault}
+use Rattle.pc_base.specs.Lists.{Text}
+use Rattle.pc_names.specs.{Faults.IsNotMemory, declared.fault.NameFault.NameFault}
 use Rattle.pc_token.specs.declared.kinds.Token.{Token}
 use Rattle.pc_tree.specs.Tree as t
-use Rattle.pc_refusals.specs.Source.{FileStage}
-use Rattle.pc_refusals.specs.Ends.{HasOneEnd}
-use Rattle.pc_refusals.specs.Verdict.{Reading, whole, Verdict}
+use Rattle.pc_refusals.specs.{Source.FileStage, Ends.HasOneEnd, Verdict.{Reading, whole, Verdict}}
 use Rattle.pc_refusals.proofs.OneSource.{differ, never_misnamed, never_misused, not_both_faults, ok_same, one_file, one_member_fault}
-use Rattle.pc_core_commands.specs.Explain.{CoreText, Explaining, IsFileFault, fault_end}
-use Rattle.pc_top.specs.Commands.Explain.{ExplainedStage}
-use Rattle.pc_core_commands.specs.Explain.CoreText.{accepted, explained}
-use Rattle.pc_top.specs.Commands.Explain.ExplainedStage.{has_none, has_tree}
-use Rattle.pc_core_commands.specs.Explain.Explaining.{has_core, has_fault}
-use Rattle.pc_top.proofs.Deriving.{file_says}
-use Rattle.pc_top.proofs.Premises.{Laws}
+use Rattle.pc_commands.specs.{Explain.{CoreText, Explaining, IsFileFault, fault_end}, Explain.CoreText.{accepted, explained}, Explain.Explaining.{has_core, has_fault}}
+use Rattle.pc_top.specs.{Commands.Explain.ExplainedStage, Commands.Explain.ExplainedStage.{has_none, has_tree}}
+use Rattle.pc_top.proofs.{Deriving.file_says, Premises.Laws}
 
 refusal_same : (v w : Verdict) (a b : Result t.File Verdict) → a ≡ Err v → b ≡ Err w → a ≡ b → v ≡ w
 refusal_same v w a b p q e = cc

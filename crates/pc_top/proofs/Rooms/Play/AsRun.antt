@@ -1,41 +1,21 @@
 -- `play` does what `run` does for the line that `schedule` writes.
 use Rattle.std.proofs.Common.{◌≡◌, ◌≤◌, ◌∙◌, ℕ, List, length, Option, Some, Ok, inl, refl, sym, ap, subst}
 use Rattle.std.specs.Prelude.{IfSome, IsSome}
-use Rattle.pc_args.specs.Asked.{Asked, play, run}
-use Rattle.pc_args.specs.Line.{IsSeed}
+use Rattle.pc_args.specs.{Asked.{Asked, play, run}, Line.IsSeed}
 use Rattle.pc_choose.specs.Lists.{Chosen}
 use Rattle.pc_core.specs.CoreData.{CoreData}
-use Rattle.pc_lists.specs.Lists.{Text}
+use Rattle.pc_base.specs.Lists.{Text}
 use Rattle.pc_play.specs.Laws.{LinesFit}
-use Rattle.pc_run.specs.Ends.{NeverLacks}
-use Rattle.pc_run.specs.Spreading.{spread}
+use Rattle.pc_run.specs.{Ends.NeverLacks, Spreading.spread}
 use Rattle.pc_sched.specs.Schedules.{schedule_limit}
 use Rattle.pc_sched_lines.specs.Lines.{IsLine}
 use Rattle.pc_types.specs.Laws.{AcceptedNeverLacks}
-use Rattle.pc_refusals.specs.Source.{AcceptedStage, source_limit}
-use Rattle.pc_refusals.specs.Source.After.{goes}
-use Rattle.pc_refusals.specs.Source.FromFile.{goes_on}
-use Rattle.pc_refusals.specs.Verdict.{Files, IsReadingOf, Reading, named, whole, Verdict, done}
-use Rattle.pc_refusals.specs.Source.Scheduling.{scheduled}
-use Rattle.pc_refusals.specs.Source.Length.{fits}
-use Rattle.pc_refusals.specs.declared.typing.Accepted.{Accepted}
-use Rattle.pc_refusals.proofs.LastStages.{passed}
-use Rattle.pc_refusals.proofs.Statuses.{accepted_refuses}
-use Rattle.pc_core_commands.proofs.Ran.{ran_same}
-use Rattle.pc_top.specs.Commands.{IsVerdictOf}
-use Rattle.pc_top.specs.Commands.Play.{IsPlay}
-use Rattle.pc_core_commands.specs.Run.{Ran}
-use Rattle.pc_top.specs.Commands.Run.{IsRun}
-use Rattle.pc_top.specs.Commands.Schedule.{IsSchedule, Scheduled}
-use Rattle.pc_top.specs.CoresFormed.{CoresAreFormed}
-use Rattle.pc_top.specs.One.{TellsOf, UnfailedOf, VerdictIsOne}
-use Rattle.pc_top.specs.Played.{Answered, PlayedAsRun}
-use Rattle.pc_top.specs.Shapes.{OfAccepted}
-use Rattle.pc_top.specs.Shapes.ByNumber.{spelled}
-use Rattle.pc_top.proofs.Accepted.{source_whole}
-use Rattle.pc_top.proofs.Deriving.{accepted_lacks_nothing, accepted_source, source_says}
-use Rattle.pc_top.proofs.NumberRoom.{numbered_says}
-use Rattle.pc_core_commands.proofs.RunEnds.{has_verdict}
+use Rattle.pc_refusals.specs.{Source.{AcceptedStage, source_limit}, Source.After.goes, Source.FromFile.goes_on, Verdict.{Files, IsReadingOf, Reading, named, whole, Verdict, done}, Source.Scheduling.scheduled, Source.Length.fits, declared.typing.Accepted.Accepted}
+use Rattle.pc_refusals.proofs.{LastStages.passed, Statuses.accepted_refuses}
+use Rattle.pc_commands.proofs.{Ran.ran_same, RunEnds.has_verdict}
+use Rattle.pc_top.specs.{Commands.IsVerdictOf, Commands.Play.IsPlay, Commands.Run.IsRun, Commands.Schedule.{IsSchedule, Scheduled}, CoresFormed.CoresAreFormed, One.{TellsOf, UnfailedOf, VerdictIsOne}, Played.{Answered, PlayedAsRun}, Shapes.OfAccepted, Shapes.ByNumber.spelled}
+use Rattle.pc_commands.specs.Run.{Ran}
+use Rattle.pc_top.proofs.{Accepted.source_whole, Deriving.{accepted_lacks_nothing, accepted_source, source_says}, NumberRoom.numbered_says}
 
 -- ---- what `schedule` was done with
 

@@ -1,12 +1,10 @@
 -- What `sends` reports is right about every run.
-use Rattle.pc_noted_receivers.specs.Laws.{AcceptedHeld}
-use Rattle.pc_noted_receivers.specs.Noted.{noted_entities}
+use Rattle.pc_noted_receivers.specs.{Laws.AcceptedHeld, Noted.noted_entities}
 use Rattle.pc_semantics.specs.Step.{after}
 use Rattle.pc_sends.specs.Covering.{HeldCovers}
 use Rattle.pc_sends.proofs.Tabled.{table_tells}
-use Rattle.pc_core_commands.proofs.Tables.{names_there}
-use Rattle.pc_top.specs.CoresFormed.{CoresAreFormed}
-use Rattle.pc_top.specs.Laws.{TablesTell}
+use Rattle.pc_commands.proofs.Tables.{names_there}
+use Rattle.pc_top.specs.{CoresFormed.CoresAreFormed, Laws.TablesTell}
 
 -- What is noted is held, and so the table tells the truth of every run.
 pub tables_tell : CoresAreFormed → AcceptedHeld → HeldCovers → TablesTell

@@ -1,6 +1,5 @@
 use Rattle.std.proofs.lemmas.Result.{err_from_is_err_and}
-use Rattle.pc_refusals.specs.Source.{Typing, SourceStage, source_limit}
-use Rattle.pc_refusals.specs.Verdict.{text_as}
+use Rattle.pc_refusals.specs.{Source.{Typing, SourceStage, source_limit}, Verdict.text_as}
 use Rattle.pc_refusals.proofs.Parts.{ends_behind, stops_behind}
 use Rattle.pc_top.proofs.accepting.accept_text.Goals as goal
 

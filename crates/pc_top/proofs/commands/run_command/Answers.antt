@@ -1,11 +1,8 @@
 use Rattle.std.proofs.Common.{ap}
-use Rattle.pc_args.specs.Asked.{check, events, explain, judge, make, outcomes, places, play, run, schedule_of, sends, show, swap, trace, upgrade}
-use Rattle.pc_args.specs.Commands.{asked_by}
+use Rattle.pc_args.specs.{Asked.{check, events, explain, judge, make, outcomes, places, play, run, schedule_of, sends, show, swap, trace, upgrade}, Commands.asked_by}
 use Rattle.pc_io.specs.Sink.{change}
 use Rattle.pc_refusals.specs.Verdict.{files_change}
-use Rattle.pc_top.proofs.Asking.{asks_judge, asks_other}
-use Rattle.pc_top.proofs.Ending.{command_ends, command_puts}
-use Rattle.pc_top.proofs.Rooms.Judge.{asks_put}
+use Rattle.pc_top.proofs.{Asking.{asks_judge, asks_other}, Ending.{command_ends, command_puts}, Rooms.Judge.asks_put}
 use Rattle.pc_top.proofs.commands.run_command.Goals as goal
 
 pub returns-in-Check-clause-ends : goal.returns-in-Check-clause-ends

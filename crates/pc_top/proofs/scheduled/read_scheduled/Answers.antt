@@ -1,5 +1,4 @@
-use Rattle.std.proofs.Common.{inl}
-use Rattle.std.proofs.lemmas.Result.{err_from_is_err_and}
+use Rattle.std.proofs.{Common.inl, lemmas.Result.err_from_is_err_and}
 use Rattle.pc_sched.specs.Schedules.{schedule_limit}
 use Rattle.pc_refusals.specs.Source.{AcceptedStage, ScheduleStage, source_limit}
 use Rattle.pc_refusals.proofs.TwoFiles.{both_later, both_same, second_gives, second_stops}

@@ -1,8 +1,5 @@
 use Rattle.std.proofs.lemmas.Result.{err_from_is_err_and}
-use Rattle.pc_refusals.specs.Source.After.{stops}
-use Rattle.pc_refusals.specs.Verdict.{file_at}
-use Rattle.pc_refusals.specs.Source.{SourceStage, source_limit}
-use Rattle.pc_refusals.specs.Source.Length.{is_longer}
+use Rattle.pc_refusals.specs.{Source.After.stops, Verdict.file_at, Source.{SourceStage, source_limit}, Source.Length.is_longer}
 use Rattle.pc_top.proofs.Facts.{core_given, core_stopped}
 use Rattle.pc_refusals.proofs.Parts.{not_read}
 use Rattle.pc_top.proofs.source.read_source.Goals as goal

@@ -1,7 +1,5 @@
-use Rattle.std.proofs.Common.{◌≡◌, ◌≤◌, ◌<◌, length, refl, arith}
-use Rattle.std.proofs.lemmas.Result.{err_from_is_err_and}
-use Rattle.pc_refusals.specs.Verdict.{text_as}
-use Rattle.pc_refusals.specs.Source.{source_limit}
+use Rattle.std.proofs.{Common.{◌≡◌, ◌≤◌, ◌<◌, length, refl, arith}, lemmas.Result.err_from_is_err_and}
+use Rattle.pc_refusals.specs.{Verdict.text_as, Source.source_limit}
 use Rattle.pc_top.proofs.Facts.{core_given, core_stopped, text_longer}
 use Rattle.pc_top.proofs.source.take_source.Goals as goal
 

@@ -2,12 +2,8 @@ use Rattle.pc_args.specs.Asked.{command_of, texts}
 use Rattle.pc_io.specs.Sink.{change}
 use Rattle.pc_refusals.specs.Verdict.{files_change}
 use Rattle.pc_refusals.proofs.Answers.{answer_of, completes}
-use Rattle.pc_top.specs.Asked.{IsVerdict, FailedIn}
-use Rattle.pc_top.specs.CoreOf.{HasSafeCore}
-use Rattle.pc_top.specs.Guarantees.{HasDecidedCore, HasFrozenCore, HasOwnedCore, HasProgressingCore}
-use Rattle.pc_top.specs.IsolatedCore.{HasIsolatedCore}
-use Rattle.pc_top.proofs.Asking.{asks_answer}
-use Rattle.pc_top.proofs.Verdicts.{accepted_holds, answer_accepts, answer_refuses, answer_swaps, answer_traces, answer_writes}
+use Rattle.pc_top.specs.{Asked.{IsVerdict, FailedIn}, CoreOf.HasSafeCore, Guarantees.{HasDecidedCore, HasFrozenCore, HasOwnedCore, HasProgressingCore}, IsolatedCore.HasIsolatedCore}
+use Rattle.pc_top.proofs.{Asking.asks_answer, Verdicts.{accepted_holds, answer_accepts, answer_refuses, answer_swaps, answer_traces, answer_writes}}
 use Rattle.pc_top.proofs.top.rcap.Goals as goal
 
 pub returns-clause-answers : goal.returns-clause-answers

@@ -1,12 +1,10 @@
 use Rattle.std.proofs.Common.{Err, inl, refl}
-use Rattle.pc_args.specs.Asked.{command_of, texts}
-use Rattle.pc_args.specs.Commands.{asked_by}
+use Rattle.pc_args.specs.{Asked.{command_of, texts}, Commands.asked_by}
 use Rattle.pc_args.proofs.Refusals.{asks_nothing}
 use Rattle.pc_io.specs.Sink.{change}
 use Rattle.pc_refusals.specs.Verdict.{files_change}
 use Rattle.pc_refusals.proofs.Ending.{kept}
-use Rattle.pc_top.proofs.Asking.{asks_end, asks_nobody, asks_no_memory}
-use Rattle.pc_top.proofs.Ending.{words_end, words_refused}
+use Rattle.pc_top.proofs.{Asking.{asks_end, asks_nobody, asks_no_memory}, Ending.{words_end, words_refused}}
 use Rattle.pc_top.proofs.top.run_words.Goals as goal
 
 pub returns-in-Ok-clause-ends : goal.returns-in-Ok-clause-ends

@@ -1,5 +1,4 @@
-use Rattle.pc_trace.specs.Clashes.{KnownUpTo}
-use Rattle.pc_trace.specs.Covers.{Covers}
+use Rattle.pc_trace.specs.{Clashes.KnownUpTo, Covers.Covers}
 use Rattle.pc_trace.proofs.clash.judged.Given as goal
 
 abbrev pub invariant-loop-at : goal.invariant-loop-at

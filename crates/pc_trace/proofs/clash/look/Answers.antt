@@ -1,5 +1,4 @@
-use Rattle.std.proofs.Common.{length, refl, ◌∙◌}
-use Rattle.std.proofs.lemmas.Option.{slice_get_read}
+use Rattle.std.proofs.{Common.{length, refl, ◌∙◌}, lemmas.Option.slice_get_read}
 use Rattle.pc_trace.proofs.Covering.{row_within, found_is, covers_on}
 use Rattle.pc_trace.proofs.clash.look.Goals as goal
 

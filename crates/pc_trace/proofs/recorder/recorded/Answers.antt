@@ -1,8 +1,6 @@
 use Rattle.std.proofs.Common.{◌≡◌, length, sym, ap, ◌∙◌, subst, arith}
 use Rattle.std.specs.Prelude.{List}
-use Rattle.pc_trace.specs.declared.touch.Touch.{Touch}
-use Rattle.pc_trace.specs.Keeps.{first_seats}
-use Rattle.pc_trace.specs.Reached.{Reached}
+use Rattle.pc_trace.specs.{declared.touch.Touch.Touch, Keeps.first_seats, Reached.Reached}
 use Rattle.pc_trace.proofs.Stepping.{reached_start, all_reached}
 use Rattle.pc_trace.proofs.recorder.recorded.Goals as goal
 

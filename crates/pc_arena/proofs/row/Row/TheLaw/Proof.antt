@@ -13,8 +13,7 @@ use mathlib.Core.List.{[], ◌++◌}
 use Rattle.std.specs.declared.alloc.Allocator.{Ghosts}
 use Rattle.std.specs.contracts.marker.PhantomData as marker
 use Rattle.pc_arena.specs.contracts.row.Row as own
-use Rattle.pc_arena.proofs.Lent.{row_lent_laws, lends_row}
-use Rattle.pc_arena.proofs.row.Row.TheLaw.Statement.{statement}
+use Rattle.pc_arena.proofs.{Lent.{row_lent_laws, lends_row}, row.Row.TheLaw.Statement.statement}
 
 pub shares : (R Z : RattleType) (g : Ghosts Z.Denot) (L : Laws R) (K : Laws Z) → statement R Z g L K
 shares R Z g L K =

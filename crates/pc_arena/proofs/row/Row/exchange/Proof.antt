@@ -1,11 +1,6 @@
 -- `exchange`: the value at a place is read, and another one is written in its place.
-use Rattle.pc_arena.proofs.Steps.{◌≡◌, refl, sym, subst, ◌∙◌, ℕ, ◌+◌, ◌*◌, ◌<◌, arith, List, [], ◌∷◌, ◌++◌, length, set, length-set, T as Holds, has_ty, full_share, Fml, Lft, Share, ftrue, fsep, fat, flft, SProp, ent, emp, id⊢, w64, a_type, dcons, dnil, Val, vint, vptr, WT, inst_fn, WpFn, ‵, raw, ◌⊛◌, some, given, at_ret, ◌$◌, ◌∵◌, !, qed, by, move, keep, use0, use1, use2, split, join, fsplit, fsplit3, fjoin, fjoin3, feq_i, pick, learn, rewrite, suffices, look_in, sub, whole, enter, stop, fld, load, size_lit, of_opd, bin, first, blocks, exec, store, look, assigns_last, returns, alloc_all, pass_all, free_all, look_at, get, through, sets, sets_last, env, fact, fact_i, tables, usize, yes, no, row, param, layout, bounded, param_laws, RattleType, owns, types_at, plain, nothing, heard, Stays, stay_dropped, stay_ref, walk_of, Goes-dropped, Goes-ref, type_size, Some, slice_get, proved_at, leaves, el_in, el_out, after}
-use Rattle.pc_arena.specs.Ownership.{row_size}
-use Rattle.pc_arena.proofs.Fills.{within_word, found, elements, Behind, Lies, Others, one_out, one_in}
-use Rattle.pc_arena.proofs.Opened.{one_value, Owner, filled, opens_row, shuts_row}
-use Rattle.pc_arena.specs.contracts.row.Row.exchange.{ended, clauses}
-use Rattle.pc_arena.specs.contracts.row.Row.exchange.Key.{name}
-use Rattle.pc_arena.proofs.row.Row.exchange.Statement.{statement}
+use Rattle.pc_arena.proofs.{Steps.{◌≡◌, refl, sym, subst, ◌∙◌, ℕ, ◌+◌, ◌*◌, ◌<◌, arith, List, [], ◌∷◌, ◌++◌, length, set, length-set, T as Holds, has_ty, full_share, Fml, Lft, Share, ftrue, fsep, fat, flft, SProp, ent, emp, id⊢, w64, a_type, dcons, dnil, Val, vint, vptr, WT, inst_fn, WpFn, ‵, raw, ◌⊛◌, some, given, at_ret, ◌$◌, ◌∵◌, !, qed, by, move, keep, use0, use1, use2, split, join, fsplit, fsplit3, fjoin, fjoin3, feq_i, pick, learn, rewrite, suffices, look_in, sub, whole, enter, stop, fld, load, size_lit, of_opd, bin, first, blocks, exec, store, look, assigns_last, returns, alloc_all, pass_all, free_all, look_at, get, through, sets, sets_last, env, fact, fact_i, tables, usize, yes, no, row, param, layout, bounded, param_laws, RattleType, owns, types_at, plain, nothing, heard, Stays, stay_dropped, stay_ref, walk_of, Goes-dropped, Goes-ref, type_size, Some, slice_get, proved_at, leaves, el_in, el_out, after}, Fills.{within_word, found, elements, Behind, Lies, Others, one_out, one_in}, Opened.{one_value, Owner, filled, opens_row, shuts_row}, row.Row.exchange.Statement.statement}
+use Rattle.pc_arena.specs.{Ownership.row_size, contracts.row.Row.exchange.{ended, clauses}, contracts.row.Row.exchange.Key.name}
 use Rattle.pc_arena.proofs.row.Row.exchange.Code as code
 
 pub exchange_spec : {M : Type 1} → statement M

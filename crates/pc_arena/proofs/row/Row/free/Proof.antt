@@ -1,12 +1,6 @@
 -- `free`: a row without values is taken apart, and its block is given back.
-use Rattle.pc_arena.proofs.Steps.{◌≡◌, refl, ◌<◌, ◌^◌, arith, List, [], ◌∷◌, Fml, Lft, Share, ftrue, fsep, flft, SProp, named, a_type, dcons, dnil, Val, vptr, vunit, inst_fn, WpFn, prop, ‵, raw, ◌⊛◌, at_ret, ◌$◌, ◌∵◌, !, qed, by, move, keep, regoal, split, join, fsplit, fjoin, feq_i, whole, sub, enter, stop, fld, lit, unit_lit, size_lit, align_word, of_opd, bin, no_more, and_then, first, blocks, exec, returns, alloc_all, pass_all, free_all, look_at, get, get_in, sets, lands_last, env, fact, tables, RefOf, yes, no, param, bounded, RattleType, owns, Ptr, block_ptr, shr_vals, shr_Tells, types_at, plain, nothing, heard, Stays, stay_dropped, walk_of, Goes-dropped, Goes-blank, type_size, proved, leaves, after, ◌⊑◌, Incl-trans}
-use Rattle.pc_arena.proofs.Fills.{row_within_word}
-use Rattle.pc_arena.proofs.Opened.{Owner, row_val, tells}
-use Rattle.pc_arena.proofs.Blocks.{emptied}
-use Rattle.pc_arena.proofs.Handles.{gives_row}
-use Rattle.pc_arena.specs.contracts.row.Row.free.{ended, clauses}
-use Rattle.pc_arena.specs.contracts.row.Row.free.Key.{name}
-use Rattle.pc_arena.proofs.row.Row.free.Statement.{statement}
+use Rattle.pc_arena.proofs.{Steps.{◌≡◌, refl, ◌<◌, ◌^◌, arith, List, [], ◌∷◌, Fml, Lft, Share, ftrue, fsep, flft, SProp, named, a_type, dcons, dnil, Val, vptr, vunit, inst_fn, WpFn, prop, ‵, raw, ◌⊛◌, at_ret, ◌$◌, ◌∵◌, !, qed, by, move, keep, regoal, split, join, fsplit, fjoin, feq_i, whole, sub, enter, stop, fld, lit, unit_lit, size_lit, align_word, of_opd, bin, no_more, and_then, first, blocks, exec, returns, alloc_all, pass_all, free_all, look_at, get, get_in, sets, lands_last, env, fact, tables, RefOf, yes, no, param, bounded, RattleType, owns, Ptr, block_ptr, shr_vals, shr_Tells, types_at, plain, nothing, heard, Stays, stay_dropped, walk_of, Goes-dropped, Goes-blank, type_size, proved, leaves, after, ◌⊑◌, Incl-trans}, Fills.row_within_word, Opened.{Owner, row_val, tells}, Blocks.emptied, Handles.gives_row, row.Row.free.Statement.statement}
+use Rattle.pc_arena.specs.{contracts.row.Row.free.{ended, clauses}, contracts.row.Row.free.Key.name}
 use Rattle.pc_arena.proofs.row.Row.free.Code as code
 
 pub free_spec : {M : Type 1} → statement M

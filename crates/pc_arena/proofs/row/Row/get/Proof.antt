@@ -1,12 +1,7 @@
 -- `get`: a `&` to one of the values that are lent.
-use Rattle.pc_arena.proofs.Steps.{◌≡◌, refl, ℕ, ◌+◌, ◌*◌, ◌<◌, arith, List, [], ◌∷◌, length, Fml, Lft, Share, ftrue, fsep, flft, SProp, emp, never, id⊢, named, w64, a_type, dcons, dnil, Val, vint, vptr, inst_fn, ‵, raw, ◌⊛◌, at_ret, ◌$◌, ◌∵◌, !, qed, by, move, keep, use0, use1, split, join, fsplit, fjoin, feq_i, flt_l, rewrite, done, enter, stop, fld, load, addr, size_lit, of_opd, bin, first, blocks, exec, look, returns, alloc_all, pass_all, free_all, look_at, get, through, sets, sets_last, env, fact, fact_i, tables, RefOf, usize, yes, hidden_shr, shared_of, hide, unhide, shr_dup, param, bounded, uint_vals, uint_Tells, RattleType, owns, Ptr, RawPtr, block_ptr, in_a_block, ptr_row_laws, shr_vals, shr_Tells, types_at, plain, nothing, heard, Stays, stay_dropped, walk_of, Goes-dropped, type_size, Some, slice_get, proved, leaves, after}
-use Rattle.pc_arena.specs.Ownership.{row_size, row_lent}
-use Rattle.pc_arena.proofs.Fills.{within_word, found, one_lent}
-use Rattle.pc_arena.proofs.Opened.{Owner}
+use Rattle.pc_arena.proofs.{Steps.{◌≡◌, refl, ℕ, ◌+◌, ◌*◌, ◌<◌, arith, List, [], ◌∷◌, length, Fml, Lft, Share, ftrue, fsep, flft, SProp, emp, never, id⊢, named, w64, a_type, dcons, dnil, Val, vint, vptr, inst_fn, ‵, raw, ◌⊛◌, at_ret, ◌$◌, ◌∵◌, !, qed, by, move, keep, use0, use1, split, join, fsplit, fjoin, feq_i, flt_l, rewrite, done, enter, stop, fld, load, addr, size_lit, of_opd, bin, first, blocks, exec, look, returns, alloc_all, pass_all, free_all, look_at, get, through, sets, sets_last, env, fact, fact_i, tables, RefOf, usize, yes, hidden_shr, shared_of, hide, unhide, shr_dup, param, bounded, uint_vals, uint_Tells, RattleType, owns, Ptr, RawPtr, block_ptr, in_a_block, ptr_row_laws, shr_vals, shr_Tells, types_at, plain, nothing, heard, Stays, stay_dropped, walk_of, Goes-dropped, type_size, Some, slice_get, proved, leaves, after}, Fills.{within_word, found, one_lent}, Opened.Owner, row.Row.get.Statement.statement}
+use Rattle.pc_arena.specs.{Ownership.{row_size, row_lent}, contracts.row.Row.get.{ended, clauses}, contracts.row.Row.get.Key.name}
 use Rattle.std.proofs.Words.{pointer_in, pointer_out}
-use Rattle.pc_arena.specs.contracts.row.Row.get.{ended, clauses}
-use Rattle.pc_arena.specs.contracts.row.Row.get.Key.{name}
-use Rattle.pc_arena.proofs.row.Row.get.Statement.{statement}
 use Rattle.pc_arena.proofs.row.Row.get.Code as code
 
 pub get_spec : {M : Type 1} → statement M

@@ -1,11 +1,8 @@
 -- `len`: the count is read through the `&`.
-use Rattle.pc_arena.proofs.Steps.{◌≡◌, refl, ℕ, ◌+◌, ◌^◌, List, [], ◌∷◌, length, Fml, Lft, Share, ftrue, fsep, flft, SProp, emp, named, w64, a_type, dcons, dnil, Val, vint, vptr, inst_fn, ‵, raw, ◌⊛◌, ◌$◌, ◌∵◌, !, qed, by, move, keep, drop, use0, split, join, fsplit, fjoin, feq_i, flt_i, done, enter, stop, fld, load, of_opd, look, returns, alloc_all, pass_all, free_all, look_at, through, sets, fact, fact_i, tables, RefOf, usize, yes, hidden_shr, hide, unhide, shr_dup, param, bounded, RattleType, owns, shr_vals, shr_Tells, types_at, plain, nothing, Stays, stay_dropped, walk_of, Goes-dropped, proved, leaves}
-use Rattle.pc_arena.proofs.Opened.{Owner}
+use Rattle.pc_arena.proofs.{Steps.{◌≡◌, refl, ℕ, ◌+◌, ◌^◌, List, [], ◌∷◌, length, Fml, Lft, Share, ftrue, fsep, flft, SProp, emp, named, w64, a_type, dcons, dnil, Val, vint, vptr, inst_fn, ‵, raw, ◌⊛◌, ◌$◌, ◌∵◌, !, qed, by, move, keep, drop, use0, split, join, fsplit, fjoin, feq_i, flt_i, done, enter, stop, fld, load, of_opd, look, returns, alloc_all, pass_all, free_all, look_at, through, sets, fact, fact_i, tables, RefOf, usize, yes, hidden_shr, hide, unhide, shr_dup, param, bounded, RattleType, owns, shr_vals, shr_Tells, types_at, plain, nothing, Stays, stay_dropped, walk_of, Goes-dropped, proved, leaves}, Opened.Owner, row.Row.len.Statement.statement}
 use Rattle.std.proofs.Words.{word_in, word_out}
 use denote.Plain.{uint_row_laws}
-use Rattle.pc_arena.specs.contracts.row.Row.len.{ended, clauses}
-use Rattle.pc_arena.specs.contracts.row.Row.len.Key.{name}
-use Rattle.pc_arena.proofs.row.Row.len.Statement.{statement}
+use Rattle.pc_arena.specs.{contracts.row.Row.len.{ended, clauses}, contracts.row.Row.len.Key.name}
 use Rattle.pc_arena.proofs.row.Row.len.Code as code
 
 pub len_spec : {M : Type 1} → statement M

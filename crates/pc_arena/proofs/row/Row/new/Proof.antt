@@ -1,15 +1,7 @@
 -- `new`: the block that the allocator hands over is a row without values.
-use Rattle.pc_arena.proofs.Steps.{◌≡◌, refl, arith, [], ◌∷◌, Fml, Lft, Share, ftrue, fsep, flft, SProp, emp, named, a_type, dcons, dnil, Val, vptr, vstruct, vnil, inst_fn, Sq, prop, ‵, raw, ◌⊛◌, at_ret, ◌$◌, ◌∵◌, !, qed, by, move, keep, use0, use1, split, join, fsplit, fjoin, whole, enter, stop, fld, vrt, in_variant, agg, lit, size_lit, align_word, of_opd, bin, no_more, and_then, first, exec, returns, alloc_all, pass_all, free_all, look_at, get, get_in, get_tag, sets, sets_last, lands_as, env, fact, fact_i, tables, RefOf, yes, param, bounded, RattleType, owns, block_ptr, shr_vals, shr_Tells, types_at, plain, nothing, heard, Stays, stay_dropped, walk_of, Goes-dropped, type_size, Ok, Err, IfOk, proved, leaves, after, ◌⊑◌, Incl-trans}
+use Rattle.pc_arena.proofs.{Steps.{◌≡◌, refl, arith, [], ◌∷◌, Fml, Lft, Share, ftrue, fsep, flft, SProp, emp, named, a_type, dcons, dnil, Val, vptr, vstruct, vnil, inst_fn, Sq, prop, ‵, raw, ◌⊛◌, at_ret, ◌$◌, ◌∵◌, !, qed, by, move, keep, use0, use1, split, join, fsplit, fjoin, whole, enter, stop, fld, vrt, in_variant, agg, lit, size_lit, align_word, of_opd, bin, no_more, and_then, first, exec, returns, alloc_all, pass_all, free_all, look_at, get, get_in, get_tag, sets, sets_last, lands_as, env, fact, fact_i, tables, RefOf, yes, param, bounded, RattleType, owns, block_ptr, shr_vals, shr_Tells, types_at, plain, nothing, heard, Stays, stay_dropped, walk_of, Goes-dropped, type_size, Ok, Err, IfOk, proved, leaves, after, ◌⊑◌, Incl-trans}, Fills.row_within_word, Opened.row_val, Blocks.{Answer, empty, empty_fits, answers_row, answers_error}, Handles.asks_row, Results.{variant, variant_fits, goes_ok, goes_err}, row.Row.new.Statement.statement}
 use Rattle.std.specs.Vec.Ownership.{FitsInBlock}
-use Rattle.pc_arena.specs.Ownership.{row_size}
-use Rattle.pc_arena.proofs.Fills.{row_within_word}
-use Rattle.pc_arena.proofs.Opened.{row_val}
-use Rattle.pc_arena.proofs.Blocks.{Answer, empty, empty_fits, answers_row, answers_error}
-use Rattle.pc_arena.proofs.Handles.{asks_row}
-use Rattle.pc_arena.proofs.Results.{variant, variant_fits, goes_ok, goes_err}
-use Rattle.pc_arena.specs.contracts.row.Row.new.{ended, clauses}
-use Rattle.pc_arena.specs.contracts.row.Row.new.Key.{name}
-use Rattle.pc_arena.proofs.row.Row.new.Statement.{statement}
+use Rattle.pc_arena.specs.{Ownership.row_size, contracts.row.Row.new.{ended, clauses}, contracts.row.Row.new.Key.name}
 use Rattle.pc_arena.proofs.row.Row.new.Code as code
 
 pub new_spec : {M : Type 1} → statement M

@@ -1,11 +1,6 @@
 -- `pop`: the last value is read, and its place is memory again.
-use Rattle.pc_arena.proofs.Steps.{◌≡◌, refl, sym, ap, ◌∙◌, ℕ, ◌+◌, ◌-◌, ◌*◌, ◌<◌, ◌≤◌, ◌^◌, arith, List, [], ◌∷◌, ◌++◌, length, length-append, T as Holds, has_ty, full_share, Fml, Lft, Share, ftrue, fsep, fat, froom, flft, SProp, emp, named, a_type, dcons, dnil, Val, vptr, WT, inst_fn, ‵, raw, ◌⊛◌, some, given, at_ret, ◌$◌, ◌∵◌, !, qed, by, move, keep, use0, use1, use2, split, join, fsplit, fsplit3, fjoin, fjoin3, feq_i, pick, learn, rewrite, look_in, store_in, sub, whole, enter, stop, fld, load, lit, size_lit, of_opd, bin, first, blocks, exec, look, assigns, returns, alloc_all, pass_all, free_all, look_at, get, through, sets, sets_last, env, fact, fact_i, tables, row, lone, param, layout, bounded, RattleType, owns, mut_vals, mut_Tells, types_at, plain, nothing, heard, Stays, stay_ref, walk_of, Goes-ref, type_size, proved, leaves, el_out, after}
-use Rattle.pc_arena.specs.Ownership.{row_size}
-use Rattle.pc_arena.proofs.Fills.{within_word, ends, elements, Behind, Lies, place_in, last_out}
-use Rattle.pc_arena.proofs.Opened.{Owner, filled, opens_row, shuts_row}
-use Rattle.pc_arena.specs.contracts.row.Row.pop.{ended, clauses}
-use Rattle.pc_arena.specs.contracts.row.Row.pop.Key.{name}
-use Rattle.pc_arena.proofs.row.Row.pop.Statement.{statement}
+use Rattle.pc_arena.proofs.{Steps.{◌≡◌, refl, sym, ap, ◌∙◌, ℕ, ◌+◌, ◌-◌, ◌*◌, ◌<◌, ◌≤◌, ◌^◌, arith, List, [], ◌∷◌, ◌++◌, length, length-append, T as Holds, has_ty, full_share, Fml, Lft, Share, ftrue, fsep, fat, froom, flft, SProp, emp, named, a_type, dcons, dnil, Val, vptr, WT, inst_fn, ‵, raw, ◌⊛◌, some, given, at_ret, ◌$◌, ◌∵◌, !, qed, by, move, keep, use0, use1, use2, split, join, fsplit, fsplit3, fjoin, fjoin3, feq_i, pick, learn, rewrite, look_in, store_in, sub, whole, enter, stop, fld, load, lit, size_lit, of_opd, bin, first, blocks, exec, look, assigns, returns, alloc_all, pass_all, free_all, look_at, get, through, sets, sets_last, env, fact, fact_i, tables, row, lone, param, layout, bounded, RattleType, owns, mut_vals, mut_Tells, types_at, plain, nothing, heard, Stays, stay_ref, walk_of, Goes-ref, type_size, proved, leaves, el_out, after}, Fills.{within_word, ends, elements, Behind, Lies, place_in, last_out}, Opened.{Owner, filled, opens_row, shuts_row}, row.Row.pop.Statement.statement}
+use Rattle.pc_arena.specs.{Ownership.row_size, contracts.row.Row.pop.{ended, clauses}, contracts.row.Row.pop.Key.name}
 use Rattle.pc_arena.proofs.row.Row.pop.Code as code
 
 pub pop_spec : {M : Type 1} → statement M

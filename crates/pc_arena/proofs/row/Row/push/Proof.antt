@@ -1,11 +1,6 @@
 -- `push`: the first of the unwritten places takes the value.
-use Rattle.pc_arena.proofs.Steps.{◌≡◌, refl, sym, ap, subst, ◌∙◌, ℕ, ◌+◌, ◌*◌, ◌<◌, ◌≤◌, ◌^◌, arith, List, [], ◌∷◌, ◌++◌, length, length-append, full_share, Fml, Lft, Share, ftrue, fsep, froom, flft, SProp, ent, emp, id⊢, a_type, dcons, dnil, Val, vptr, vunit, inst_fn, WpFn, ‵, raw, ◌⊛◌, at_ret, ◌$◌, ◌∵◌, !, qed, by, move, keep, use0, use1, use2, split, join, fsplit3, fjoin, fjoin3, feq_i, rewrite, suffices, look_in, store_in, sub, whole, enter, stop, fld, load, lit, unit_lit, size_lit, of_opd, bin, first, blocks, exec, init, assigns, assigns_last, returns, alloc_all, pass_all, free_all, look_at, get, through, sets, env, fact, fact_i, tables, no, row, lone, part_at, param, layout, bounded, param_laws, RattleType, owns, types_at, plain, nothing, heard, Stays, stay_dropped, stay_ref, walk_of, Goes-dropped, Goes-ref, type_size, proved_at, leaves, el_in, after}
-use Rattle.pc_arena.specs.Ownership.{row_size}
-use Rattle.pc_arena.proofs.Fills.{within_word, elements, Behind, Lies, place_out, last_in}
-use Rattle.pc_arena.proofs.Opened.{one_value, Owner, filled, opens_row, shuts_row}
-use Rattle.pc_arena.specs.contracts.row.Row.push.{ended, clauses}
-use Rattle.pc_arena.specs.contracts.row.Row.push.Key.{name}
-use Rattle.pc_arena.proofs.row.Row.push.Statement.{statement}
+use Rattle.pc_arena.proofs.{Steps.{◌≡◌, refl, sym, ap, subst, ◌∙◌, ℕ, ◌+◌, ◌*◌, ◌<◌, ◌≤◌, ◌^◌, arith, List, [], ◌∷◌, ◌++◌, length, length-append, full_share, Fml, Lft, Share, ftrue, fsep, froom, flft, SProp, ent, emp, id⊢, a_type, dcons, dnil, Val, vptr, vunit, inst_fn, WpFn, ‵, raw, ◌⊛◌, at_ret, ◌$◌, ◌∵◌, !, qed, by, move, keep, use0, use1, use2, split, join, fsplit3, fjoin, fjoin3, feq_i, rewrite, suffices, look_in, store_in, sub, whole, enter, stop, fld, load, lit, unit_lit, size_lit, of_opd, bin, first, blocks, exec, init, assigns, assigns_last, returns, alloc_all, pass_all, free_all, look_at, get, through, sets, env, fact, fact_i, tables, no, row, lone, part_at, param, layout, bounded, param_laws, RattleType, owns, types_at, plain, nothing, heard, Stays, stay_dropped, stay_ref, walk_of, Goes-dropped, Goes-ref, type_size, proved_at, leaves, el_in, after}, Fills.{within_word, elements, Behind, Lies, place_out, last_in}, Opened.{one_value, Owner, filled, opens_row, shuts_row}, row.Row.push.Statement.statement}
+use Rattle.pc_arena.specs.{Ownership.row_size, contracts.row.Row.push.{ended, clauses}, contracts.row.Row.push.Key.name}
 use Rattle.pc_arena.proofs.row.Row.push.Code as code
 
 pub push_spec : {M : Type 1} → statement M

@@ -1,12 +1,9 @@
 use Rattle.std.proofs.Common.{◌≡◌, ◌≤◌, length, sym, ap, subst, ◌∙◌}
-use Rattle.std.specs.Prelude.{List, Some, Option, slice_get}
-use Rattle.std.specs.Option.{option_copied}
-use Rattle.pc_core.specs.declared.declarations.EntityDef.{EntityDef}
-use Rattle.pc_core.specs.declared.declarations.FieldInfo.{FieldInfo}
-use Rattle.pc_lists.specs.Lists.{◌>>=◌, place_of}
+use Rattle.std.specs.{Prelude.{List, Some, Option, slice_get}, Option.option_copied}
+use Rattle.pc_core.specs.{declared.declarations.EntityDef.EntityDef, declared.declarations.FieldInfo.FieldInfo, Members.field_exact}
+use Rattle.pc_base.specs.Lists.{◌>>=◌, place_of}
 use Rattle.pc_core.specs.CoreData as spec
 use Rattle.pc_core.specs.Parts as parts
-use Rattle.pc_core.specs.Members.{field_exact}
 use Rattle.pc_core.proofs.cores.Core.field.Goals as goal
 
 there : (c : goal.After-as_slice) → slice_get c.args.self.now.entities c.args.entity ≡ Some c.in_ok-found.found.now

@@ -1,8 +1,7 @@
 use Rattle.std.proofs.Common.{List, subst}
 use Rattle.std.specs.Prelude.{Option, IfSome}
 use Rattle.pc_masks.specs.declared.mask.Mask.{Mask}
-use Rattle.pc_core.specs.CoreData.{CoreData}
-use Rattle.pc_core.specs.Conforming.{TellsConforming}
+use Rattle.pc_core.specs.{CoreData.CoreData, Conforming.TellsConforming}
 use Rattle.pc_core.proofs.cores.Core.known_to_conform.Goals as goal
 
 pub told-requires : goal.told-requires

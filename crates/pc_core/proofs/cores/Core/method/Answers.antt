@@ -1,9 +1,7 @@
 use Rattle.std.proofs.Common.{◌≡◌, ℕ, List, map, ap, subst, ◌∙◌}
 use Rattle.std.specs.Prelude.{Option, IfSome}
-use Rattle.pc_core.specs.CoreData.{CoreData}
+use Rattle.pc_core.specs.{CoreData.CoreData, Members.method_exact, MethodKeys.method_key}
 use Rattle.pc_core.specs.CoreData as spec
-use Rattle.pc_core.specs.Members.{method_exact}
-use Rattle.pc_core.specs.MethodKeys.{method_key}
 use Rattle.pc_core.proofs.Keys.{named_by_key}
 use Rattle.pc_core.proofs.cores.Core.method.Goals as goal
 

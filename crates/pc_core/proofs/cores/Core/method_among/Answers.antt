@@ -1,12 +1,9 @@
 use Rattle.std.proofs.Common.{◌≡◌, ◌+◌, ◌<◌, ◌≤◌, ◌^◌, length, sym, ap, subst, ◌∙◌}
-use Rattle.std.specs.Prelude.{List, Option, slice_range}
-use Rattle.std.specs.Option.{option_copied}
-use Rattle.pc_core.specs.declared.declarations.EntityDef.{EntityDef}
-use Rattle.pc_core.specs.declared.declarations.Method.{Method}
-use Rattle.pc_lists.specs.Lists.{◌>>=◌, place_of}
+use Rattle.std.specs.{Prelude.{List, Option, slice_range}, Option.option_copied}
+use Rattle.pc_core.specs.{declared.declarations.EntityDef.EntityDef, declared.declarations.Method.Method, Members.{methods_within, own_methods_within}}
+use Rattle.pc_base.specs.Lists.{◌>>=◌, place_of}
 use Rattle.pc_core.specs.CoreData as spec
 use Rattle.pc_core.specs.Parts as parts
-use Rattle.pc_core.specs.Members.{methods_within, own_methods_within}
 use Rattle.pc_core.proofs.cores.Core.method_among.Goals as goal
 
 pub part-methods-requires : goal.part-methods-requires

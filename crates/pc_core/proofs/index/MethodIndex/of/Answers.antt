@@ -1,5 +1,4 @@
-use Rattle.std.proofs.Common.{refl, arith}
-use Rattle.std.proofs.lemmas.Option.{slice_get_read}
+use Rattle.std.proofs.{Common.{refl, arith}, lemmas.Option.slice_get_read}
 use Rattle.pc_core.proofs.Keys.{met_before}
 use Rattle.pc_core.proofs.index.MethodIndex.of.Goals as goal
 

@@ -1,7 +1,5 @@
-use Rattle.std.proofs.Common.{refl}
-use Rattle.std.proofs.lemmas.Bool.{both_ways}
-use Rattle.pc_feed.proofs.Openings.{head_right, head_wrong}
-use Rattle.pc_feed.proofs.Taking.{nothing, still_nothing}
+use Rattle.std.proofs.{Common.refl, lemmas.Bool.both_ways}
+use Rattle.pc_feed.proofs.{Openings.{head_right, head_wrong}, Taking.{nothing, still_nothing}}
 use Rattle.pc_feed.proofs.judging.Judging.take_head.Goals as goal
 
 pub returns-then-has_counts : goal.returns-then-has_counts

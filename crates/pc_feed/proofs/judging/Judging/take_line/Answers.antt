@@ -1,6 +1,5 @@
 use Rattle.std.proofs.Common.{refl}
-use Rattle.pc_feed.proofs.Taking.{passed_over, same_nodes}
-use Rattle.pc_feed.proofs.Places.{right_within}
+use Rattle.pc_feed.proofs.{Taking.{passed_over, same_nodes}, Places.right_within}
 use Rattle.pc_feed.proofs.judging.Judging.take_line.Goals as goal
 
 pub returns-in-Some : goal.returns-in-Some

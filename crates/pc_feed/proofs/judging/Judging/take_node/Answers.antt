@@ -1,9 +1,6 @@
-use Rattle.std.proofs.lemmas.Result.{err_from_is_err_and}
-use Rattle.std.proofs.lemmas.Bool.{both_ways}
+use Rattle.std.proofs.{lemmas.Result.err_from_is_err_and, lemmas.Bool.both_ways}
 use Rattle.std.specs.declared.alloc.AllocError.{AllocError}
-use Rattle.pc_feed.proofs.NodeLines.{node_wrong, found_so_far}
-use Rattle.pc_feed.proofs.Places.{node_at}
-use Rattle.pc_feed.proofs.Taking.{nothing, node_lost, node_not, node_yes}
+use Rattle.pc_feed.proofs.{NodeLines.{node_wrong, found_so_far}, Places.node_at, Taking.{nothing, node_lost, node_not, node_yes}}
 use Rattle.pc_feed.proofs.judging.Judging.take_node.Goals as goal
 
 pub returns-in_err-is_right : goal.returns-in_err-is_right

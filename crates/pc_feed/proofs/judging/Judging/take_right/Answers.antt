@@ -1,7 +1,5 @@
 use Rattle.std.proofs.Common.{refl, sym, ◌∙◌}
-use Rattle.pc_feed.proofs.NodeLines.{node_unset, node_kept}
-use Rattle.pc_feed.proofs.Places.{node_at}
-use Rattle.pc_feed.proofs.Taking.{nothing}
+use Rattle.pc_feed.proofs.{NodeLines.{node_unset, node_kept}, Places.node_at, Taking.nothing}
 use Rattle.pc_feed.proofs.judging.Judging.take_right.Goals as goal
 
 pub returns-then-leaves_unset : goal.returns-then-leaves_unset

@@ -1,8 +1,5 @@
-use Rattle.std.proofs.Common.{refl}
-use Rattle.std.proofs.lemmas.Bool.{both_ways}
-use Rattle.pc_feed.proofs.Openings.{slot_wrong, slot_pushed}
-use Rattle.pc_feed.proofs.Places.{slot_at}
-use Rattle.pc_feed.proofs.Taking.{nothing}
+use Rattle.std.proofs.{Common.refl, lemmas.Bool.both_ways}
+use Rattle.pc_feed.proofs.{Openings.{slot_wrong, slot_pushed}, Places.slot_at, Taking.nothing}
 use Rattle.pc_feed.proofs.judging.Judging.take_slot.Goals as goal
 
 pub returns-then-not-may_have : goal.returns-then-not-may_have

@@ -1,7 +1,5 @@
-use Rattle.std.proofs.Common.{Err, ap}
-use Rattle.std.proofs.lemmas.Result.{err_from_is_err_and}
-use Rattle.pc_feed.specs.declared.fault.StreamFault.TheVariants.{Text}
-use Rattle.pc_feed.specs.Lines.{lines_in}
+use Rattle.std.proofs.{Common.{Err, ap}, lemmas.Result.err_from_is_err_and}
+use Rattle.pc_feed.specs.{declared.fault.StreamFault.TheVariants.Text, Lines.lines_in}
 use Rattle.pc_feed.proofs.Piecewise.{next_fault, next_none, next_room, next_comes, next_line, next_ran_out, no_line_behind, same_fault_behind}
 use Rattle.pc_feed.proofs.reading.Reading.take_next.Goals as goal
 

@@ -1,5 +1,4 @@
-use Rattle.std.proofs.Common.{ℕ, List, ◌++◌, Err, take, ap, ◌∙◌}
-use Rattle.std.proofs.lemmas.Result.{err_from_is_err_and}
+use Rattle.std.proofs.{Common.{ℕ, List, ◌++◌, Err, take, ap, ◌∙◌}, lemmas.Result.err_from_is_err_and}
 use Rattle.pc_feed.specs.Streams.{ReadSo}
 use Rattle.pc_feed.proofs.Piecewise.{underway_by, taken_by, piece_stopped, not_both, same_err}
 use Rattle.pc_feed.proofs.reading.Reading.take_piece.Goals as goal

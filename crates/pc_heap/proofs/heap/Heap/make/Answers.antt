@@ -1,13 +1,7 @@
 use Rattle.std.proofs.Common.{◌≡◌, ℕ, ◌-◌, cond, List, [], ◌∷◌, ◌++◌, length, Option, None, sym, ap, ◌∙◌, subst, arith}
 use Rattle.std.specs.FinMap as map
 use Rattle.std.specs.Prelude.{nat_eq}
-use Rattle.pc_heap.specs.declared.value.Address.{Address}
-use Rattle.pc_heap.specs.declared.entry.Entry.{Entry}
-use Rattle.pc_heap.specs.Objects.{new_object}
-use Rattle.pc_heap.specs.Heaps.{HeapData, Room}
-use Rattle.pc_heap.specs.Rows.{numbers_of}
-use Rattle.pc_heap.specs.Entries.{Items, objects_of}
-use Rattle.pc_heap.specs.Inside.{room_of, Sound}
+use Rattle.pc_heap.specs.{declared.value.Address.Address, declared.entry.Entry.Entry, Objects.new_object, Heaps.{HeapData, Room}, Rows.numbers_of, Entries.{Items, objects_of}, Inside.{room_of, Sound}}
 use Rattle.pc_heap.proofs.Sounds.{serial_small, made_at, made_free, made_objects, made_sound}
 use Rattle.pc_heap.proofs.heap.Heap.make.Goals as goal
 

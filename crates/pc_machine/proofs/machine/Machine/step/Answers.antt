@@ -2,8 +2,7 @@ use Rattle.std.proofs.Common.{◌≡◌, ◌<◌, ap, sym, subst}
 use Rattle.std.specs.FinMap.{len}
 use Rattle.pc_heap.specs.Heaps.{object_limit}
 use Rattle.pc_semantics.specs.Configurations.{Configuration}
-use Rattle.pc_machine.specs.Machines.{MachineData}
-use Rattle.pc_machine.specs.States.{configuration_of}
+use Rattle.pc_machine.specs.{Machines.MachineData, States.configuration_of}
 use Rattle.pc_machine.proofs.Kept.{machine_kept}
 use Rattle.pc_machine.proofs.machine.Machine.step.Goals as goal
 

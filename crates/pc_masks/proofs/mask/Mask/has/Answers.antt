@@ -1,8 +1,5 @@
-use Rattle.std.proofs.Common.{◌≡◌, ap, sym, ◌∙◌, arith}
-use Rattle.std.specs.Prelude.{nat_eq}
-use Rattle.std.specs.Int.{bit_at}
-use Rattle.std.proofs.lemmas.Bool.{le-ltb}
-use Rattle.std.proofs.lemmas.Nat.Bits.{bit_at_above}
+use Rattle.std.proofs.{Common.{◌≡◌, ap, sym, ◌∙◌, arith}, lemmas.Bool.le-ltb, lemmas.Nat.Bits.bit_at_above}
+use Rattle.std.specs.{Prelude.nat_eq, Int.bit_at}
 use Rattle.pc_masks.proofs.mask.Mask.has.Goals as goal
 
 pub returns-else-number-lt64 : goal.returns-else-number-lt64

@@ -1,6 +1,5 @@
 use Rattle.pc_outcomes.specs.contracts.entry.OutcomePartialEq.TheImpl as outcome_eq
-use Rattle.pc_outcomes.specs.Shown.{play_with}
-use Rattle.pc_outcomes.specs.Tables.{shows_outcome}
+use Rattle.pc_outcomes.specs.{Shown.play_with, Tables.shows_outcome}
 use Rattle.pc_outcomes.proofs.Finding.{found_same, outcome_same}
 use Rattle.pc_outcomes.proofs.entries.Entries.place_of.Goals as goal
 

@@ -1,6 +1,5 @@
 use Rattle.std.proofs.Common.{rules, ◌≡◌, None, map}
-use Rattle.std.specs.Map.{lookup}
-use Rattle.std.specs.Str.{bytes_eq}
+use Rattle.std.specs.{Map.lookup, Str.bytes_eq}
 use Rattle.pc_resolve.proofs.Indexes.{shown, added_shown, none_there}
 use Rattle.pc_resolve.proofs.index.Index.add.Goals as goal
 

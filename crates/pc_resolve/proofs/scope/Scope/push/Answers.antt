@@ -1,9 +1,6 @@
 use Rattle.std.proofs.Common.{◌≡◌, length, ap, ◌∙◌, if◌then◌else◌}
-use Rattle.std.specs.Prelude.{nat_lt}
-use Rattle.std.specs.Str.{bytes_eq}
-use Rattle.pc_resolve.specs.declared.scope.Entered.{Entered}
-use Rattle.pc_resolve.specs.Indexes.{with_first}
-use Rattle.pc_resolve.specs.Near.{near_count}
+use Rattle.std.specs.{Prelude.nat_lt, Str.bytes_eq}
+use Rattle.pc_resolve.specs.{declared.scope.Entered.Entered, Indexes.with_first, Near.near_count}
 use Rattle.pc_resolve.proofs.Visibles.{kept_more}
 use Rattle.pc_resolve.proofs.scope.Scope.push.Goals as goal
 

@@ -1,6 +1,5 @@
-use Rattle.std.proofs.Common.{◌++◌, ◌<◌, ◌≤◌, ◌∙◌, None, length, replicate, set, ap, sym, arith}
+use Rattle.std.proofs.{Common.{◌++◌, ◌<◌, ◌≤◌, ◌∙◌, None, length, replicate, set, ap, sym, arith}, lemmas.List.set-append_left}
 use Rattle.std.specs.Prelude.{slice_get}
-use Rattle.std.proofs.lemmas.List.{set-append_left}
 use Rattle.pc_semantics.specs.Parts.{held}
 use Rattle.pc_semantics.proofs.Held.{nothing_past, same_past}
 use Rattle.pc_semantics.proofs.slots.Slots.take.Goals as goal

@@ -1,6 +1,5 @@
-use Rattle.std.proofs.Common.{◌<◌, ◌∙◌, ap, arith, length, sym, set}
+use Rattle.std.proofs.{Common.{◌<◌, ◌∙◌, ap, arith, length, sym, set}, lemmas.List.length-reverse}
 use Rattle.std.specs.Prelude.{reverse, slice_get}
-use Rattle.std.proofs.lemmas.List.{length-reverse}
 use Rattle.pc_semantics.proofs.Ends.{reverse_set, reverse_get}
 use Rattle.pc_semantics.proofs.stack.Stack.replace.Goals as goal
 

@@ -1,6 +1,5 @@
-use Rattle.std.proofs.Common.{◌<◌, ◌∙◌, ◌∷◌, ap, arith, length, drop, sym}
+use Rattle.std.proofs.{Common.{◌<◌, ◌∙◌, ◌∷◌, ap, arith, length, drop, sym}, lemmas.List.length-reverse}
 use Rattle.std.specs.Prelude.{reverse, slice_get}
-use Rattle.std.proofs.lemmas.List.{length-reverse}
 use Rattle.pc_semantics.proofs.Ends.{reverse_set_last, top_last}
 use Rattle.pc_semantics.proofs.stack.Stack.replace_top.Goals as goal
 

@@ -1,7 +1,5 @@
-use Rattle.std.proofs.Common.{◌≡◌, ◌<◌, ◌-◌, ◌∙◌, ◌∷◌, refl, ap, arith, length, drop, get_or, sym, set}
+use Rattle.std.proofs.{Common.{◌≡◌, ◌<◌, ◌-◌, ◌∙◌, ◌∷◌, refl, ap, arith, length, drop, get_or, sym, set}, lemmas.List.length-reverse, lemmas.Option.slice_get-get_or}
 use Rattle.std.specs.Prelude.{Some, reverse, slice_get}
-use Rattle.std.proofs.lemmas.List.{length-reverse}
-use Rattle.std.proofs.lemmas.Option.{slice_get-get_or}
 use Rattle.pc_semantics.proofs.Ends.{reverse_set_last, top_last}
 use Rattle.pc_semantics.proofs.stack.Stack.top_mut.Goals as goal
 

@@ -1,7 +1,6 @@
 use Rattle.std.proofs.Common.{◌≡◌, ◌++◌, ◌∙◌, Some, drop, ap}
 use Rattle.std.specs.Prelude.{slice_get}
-use Rattle.pc_semantics.specs.Evaluation.{item_tasks}
-use Rattle.pc_semantics.specs.Pending.{all_tasks}
+use Rattle.pc_semantics.specs.{Evaluation.item_tasks, Pending.all_tasks}
 use Rattle.pc_semantics.proofs.Pending.{items_from}
 use Rattle.pc_semantics.proofs.tasks.Tasks.go_on_with_items.Goals as goal
 

@@ -1,6 +1,6 @@
 use Rattle.std.proofs.Common.{◌≡◌, ℕ, List, subst}
 use Rattle.std.specs.Prelude.{◌⊎◌}
-use Rattle.pc_lists.specs.Lists.{Has}
+use Rattle.pc_base.specs.Lists.{Has}
 use Rattle.pc_sends.proofs.Tests.{joined}
 use Rattle.pc_sends.proofs.calls.Calls.add.Goals as goal
 

@@ -1,5 +1,5 @@
 use Rattle.std.proofs.Common.{ℕ, List, sym, subst, ◌∙◌}
-use Rattle.pc_lists.specs.Lists.{Has}
+use Rattle.pc_base.specs.Lists.{Has}
 use Rattle.pc_sends.proofs.Pairs.{pair_has}
 use Rattle.pc_sends.proofs.calls.Calls.has.Goals as goal
 

@@ -1,6 +1,5 @@
 use Rattle.std.proofs.Common.{◌≡◌, ℕ, List, [], ◌∷◌, ◌++◌, nat_eq, sym, subst}
-use Rattle.std.specs.Prelude.{if◌then◌else◌}
-use Rattle.std.specs.List.{list_any}
+use Rattle.std.specs.{Prelude.if◌then◌else◌, List.list_any}
 use Rattle.pc_sends.specs.Growth.{Grown}
 use Rattle.pc_sends.proofs.Grows.{grown_add}
 use Rattle.pc_sends.proofs.found.Found.add.Goals as goal

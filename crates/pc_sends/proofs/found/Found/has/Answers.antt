@@ -1,5 +1,5 @@
 use Rattle.std.proofs.Common.{◌↔◌, ℕ, Bool, List, IsTrue, sym, subst}
-use Rattle.pc_lists.specs.Lists.{Has}
+use Rattle.pc_base.specs.Lists.{Has}
 use Rattle.pc_sends.proofs.Grows.{any_iff}
 use Rattle.pc_sends.proofs.found.Found.has.Goals as goal
 

@@ -1,7 +1,5 @@
-use Rattle.std.proofs.Common.{sym}
-use Rattle.std.proofs.lemmas.Result.{on_ok_weaker}
-use Rattle.pc_sends.proofs.Homes.{nodes_from, nodes_to}
-use Rattle.pc_sends.proofs.Walking.{method_uses, no_uses}
+use Rattle.std.proofs.{Common.sym, lemmas.Result.on_ok_weaker}
+use Rattle.pc_sends.proofs.{Homes.{nodes_from, nodes_to}, Walking.{method_uses, no_uses}}
 use Rattle.pc_sends.proofs.walk.Walk.see_method.Goals as goal
 
 pub nodes_of-requires-clause-from : goal.nodes_of-requires-clause-from

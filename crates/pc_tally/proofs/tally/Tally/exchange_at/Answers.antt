@@ -1,6 +1,5 @@
-use Rattle.std.proofs.Common.{◌≡◌, ◌<◌, ◌-◌, ◌+◌, ◌^◌, ◌∙◌, Some, set, sum, ap, arith}
+use Rattle.std.proofs.{Common.{◌≡◌, ◌<◌, ◌-◌, ◌+◌, ◌^◌, ◌∙◌, Some, set, sum, ap, arith}, lemmas.Option.slice_get_within}
 use Rattle.std.specs.Prelude.{slice_get}
-use Rattle.std.proofs.lemmas.Option.{slice_get_within}
 use Rattle.pc_tally.proofs.Sums.{group_holds, in_block, block_holds, total_holds, number_now, tally_now}
 use Rattle.pc_tally.proofs.tally.Tally.exchange_at.Goals as goal
 

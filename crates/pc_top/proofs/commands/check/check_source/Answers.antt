@@ -1,7 +1,5 @@
-use Rattle.std.proofs.Common.{Ok, refl}
-use Rattle.std.proofs.lemmas.Result.{err_from_is_err_and}
-use Rattle.pc_refusals.specs.Source.{AcceptedStage, source_limit}
-use Rattle.pc_refusals.specs.Verdict.{FailedAt, files_change, named, done}
+use Rattle.std.proofs.{Common.{Ok, refl}, lemmas.Result.err_from_is_err_and}
+use Rattle.pc_refusals.specs.{Source.{AcceptedStage, source_limit}, Verdict.{FailedAt, files_change, named, done}}
 use Rattle.pc_refusals.proofs.Ending.{part_answers, part_stops}
 use Rattle.pc_top.specs.Commands.Check.{Derived}
 use Rattle.pc_top.proofs.Deriving.{accepted_source, first, small_notes, source_formed}

@@ -1,7 +1,6 @@
 use Rattle.std.proofs.lemmas.Result.{err_from_is_err_and}
 use Rattle.pc_tree.specs.View.{file_view}
-use Rattle.pc_top.proofs.Facts.{tree_spelled}
-use Rattle.pc_top.proofs.Rooms.Explain.Ends.{syntax_stops, syntax_tokens, tree_ends}
+use Rattle.pc_top.proofs.{Facts.tree_spelled, Rooms.Explain.Ends.{syntax_stops, syntax_tokens, tree_ends}}
 use Rattle.pc_top.proofs.commands.explain.explain_bytes.Goals as goal
 
 pub returns-in_err-file : goal.returns-in_err-file

@@ -1,12 +1,7 @@
 use Rattle.std.proofs.lemmas.Result.{err_from_is_err_and}
-use Rattle.pc_refusals.specs.Source.After.{stops}
-use Rattle.pc_refusals.specs.Verdict.{FailedAt, files_change, named}
-use Rattle.pc_refusals.specs.Source.{source_limit}
-use Rattle.pc_refusals.specs.Source.Length.{is_longer}
-use Rattle.pc_refusals.proofs.Ending.{part_stops}
-use Rattle.pc_refusals.proofs.Parts.{not_read}
-use Rattle.pc_top.specs.Commands.Explain.{Explained, ExplainedStage}
-use Rattle.pc_top.specs.Commands.Explain.ExplainedStage.{has_none}
+use Rattle.pc_refusals.specs.{Source.After.stops, Verdict.{FailedAt, files_change, named}, Source.source_limit, Source.Length.is_longer}
+use Rattle.pc_refusals.proofs.{Ending.part_stops, Parts.not_read}
+use Rattle.pc_top.specs.{Commands.Explain.{Explained, ExplainedStage}, Commands.Explain.ExplainedStage.has_none}
 use Rattle.pc_top.proofs.Rooms.Explain.Ends.{explain_answers}
 use Rattle.pc_top.proofs.commands.explain.explain_source.Goals as goal
 

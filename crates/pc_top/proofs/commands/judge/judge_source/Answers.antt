@@ -1,14 +1,9 @@
-use Rattle.std.proofs.Common.{inl}
-use Rattle.std.proofs.lemmas.Result.{err_from_is_err_and}
-use Rattle.pc_refusals.specs.Derivation.{in_parts}
-use Rattle.pc_refusals.specs.Verdict.{file_at, files_change, named}
-use Rattle.pc_refusals.specs.Source.{SourceStage, source_limit}
-use Rattle.pc_core_commands.specs.Judge.{accepted_text}
+use Rattle.std.proofs.{Common.inl, lemmas.Result.err_from_is_err_and}
+use Rattle.pc_refusals.specs.{Derivation.in_parts, Verdict.{file_at, files_change, named}, Source.{SourceStage, source_limit}}
+use Rattle.pc_commands.specs.Judge.{accepted_text}
 use Rattle.pc_top.specs.Shapes.{OfJudged, UnreadDerivation}
-use Rattle.pc_top.proofs.Judging.{derivation_refused, derivation_told}
-use Rattle.pc_top.proofs.Rooms.Judge.{judged_all, source_not_done}
-use Rattle.pc_refusals.proofs.Ending.{part_stops}
-use Rattle.pc_refusals.proofs.TwoFiles.{both_later, both_same}
+use Rattle.pc_top.proofs.{Judging.{derivation_refused, derivation_told}, Rooms.Judge.{judged_all, source_not_done}}
+use Rattle.pc_refusals.proofs.{Ending.part_stops, TwoFiles.{both_later, both_same}}
 use Rattle.pc_top.proofs.commands.judge.judge_source.Goals as goal
 
 pub returns-in_err-read-clause-answers : goal.returns-in_err-read-clause-answers

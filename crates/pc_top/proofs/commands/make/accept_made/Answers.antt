@@ -1,12 +1,10 @@
 use Rattle.std.proofs.Common.{◌≡◌, ◌∙◌, ap, subst}
 use Rattle.pc_print.specs.Printing.{printed}
-use Rattle.pc_lists.specs.Lists.{Text}
-use Rattle.pc_refusals.specs.Source.{AcceptedStage, source_limit}
-use Rattle.pc_core_commands.specs.Make.{made_name}
+use Rattle.pc_base.specs.Lists.{Text}
+use Rattle.pc_refusals.specs.{Source.{AcceptedStage, source_limit}, Verdict.text_as, Inner.Stages.PartEnds}
+use Rattle.pc_commands.specs.Make.{made_name}
 use Rattle.pc_gen.specs.Generated.{generated_text}
 use Rattle.pc_gen.proofs.Printed.{program_printed}
-use Rattle.pc_refusals.specs.Verdict.{text_as}
-use Rattle.pc_refusals.specs.Inner.Stages.{PartEnds}
 use Rattle.pc_top.proofs.commands.make.accept_made.Goals as goal
 
 pub returns : goal.returns

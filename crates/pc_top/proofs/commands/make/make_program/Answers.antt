@@ -2,8 +2,7 @@ use Rattle.std.proofs.Common.{refl}
 use Rattle.pc_io.specs.Sink.{change}
 use Rattle.pc_refusal_lines.specs.Lines.{usage_line}
 use Rattle.pc_refusals.proofs.Ending.{ends_by, stop_ends, words_stop}
-use Rattle.pc_top.specs.Commands.Make.{IsMade, IsMake}
-use Rattle.pc_top.specs.Commands.Make.IsMake.{made, no_numbers}
+use Rattle.pc_top.specs.{Commands.Make.{IsMade, IsMake}, Commands.Make.IsMake.{made, no_numbers}}
 use Rattle.pc_top.proofs.commands.make.make_program.Goals as goal
 
 pub returns-in-Some-clause-ends : goal.returns-in-Some-clause-ends

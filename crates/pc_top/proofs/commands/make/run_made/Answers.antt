@@ -1,13 +1,10 @@
-use Rattle.std.proofs.Common.{refl}
-use Rattle.std.proofs.lemmas.Result.{err_from_is_err_and}
+use Rattle.std.proofs.{Common.refl, lemmas.Result.err_from_is_err_and}
 use Rattle.pc_io.specs.Sink.{change}
-use Rattle.pc_refusals.specs.Source.{AcceptedStage, source_limit}
-use Rattle.pc_core_commands.specs.Make.{made_name}
+use Rattle.pc_refusals.specs.{Source.{AcceptedStage, source_limit}, Verdict.text_as}
+use Rattle.pc_commands.specs.Make.{made_name}
 use Rattle.pc_gen.specs.Generated.{generated_text}
 use Rattle.pc_top.specs.Commands.Make.{IsMade, MadeRun}
-use Rattle.pc_refusals.specs.Verdict.{text_as}
-use Rattle.pc_top.proofs.Deriving.{accepted_lacks_nothing}
-use Rattle.pc_top.proofs.Rooms.Make.{never_failed}
+use Rattle.pc_top.proofs.{Deriving.accepted_lacks_nothing, Rooms.Make.never_failed}
 use Rattle.pc_refusals.proofs.Ending.{part_ends, part_stops, stop_ends}
 use Rattle.pc_top.proofs.commands.make.run_made.Goals as goal
 

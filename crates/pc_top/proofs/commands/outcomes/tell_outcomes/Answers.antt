@@ -1,11 +1,9 @@
-use Rattle.std.proofs.lemmas.Result.{err_from_is_err_and}
-use Rattle.std.proofs.Common.{arith}
+use Rattle.std.proofs.{lemmas.Result.err_from_is_err_and, Common.arith}
 use Rattle.pc_refusals.specs.Verdict.{files_change}
 use Rattle.pc_refusals.proofs.Ending.{last_ends}
-use Rattle.pc_core_commands.specs.Outcomes.{IsCount, OutcomesTelling}
+use Rattle.pc_commands.specs.Outcomes.{IsCount, OutcomesTelling}
 use Rattle.pc_top.specs.Commands.Outcomes.{Tabled}
-use Rattle.pc_top.proofs.Deriving.{accepted_lacks_nothing}
-use Rattle.pc_top.proofs.NumberRoom.{is_number, number_answers, number_stops}
+use Rattle.pc_top.proofs.{Deriving.accepted_lacks_nothing, NumberRoom.{is_number, number_answers, number_stops}}
 use Rattle.pc_top.proofs.commands.outcomes.tell_outcomes.Goals as goal
 
 pub returns-in_err-read-clause-answers : goal.returns-in_err-read-clause-answers

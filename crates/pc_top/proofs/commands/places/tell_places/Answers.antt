@@ -1,7 +1,5 @@
-use Rattle.std.proofs.Common.{Ok, refl}
-use Rattle.std.proofs.lemmas.Result.{err_from_is_err_and}
-use Rattle.pc_refusals.specs.Verdict.{FailedAt, file_at, files_change, named, done}
-use Rattle.pc_refusals.specs.Source.{SourceStage, source_limit}
+use Rattle.std.proofs.{Common.{Ok, refl}, lemmas.Result.err_from_is_err_and}
+use Rattle.pc_refusals.specs.{Verdict.{FailedAt, file_at, files_change, named, done}, Source.{SourceStage, source_limit}}
 use Rattle.pc_refusals.proofs.Ending.{part_answers, part_stops}
 use Rattle.pc_top.specs.Commands.Places.{Placed}
 use Rattle.pc_top.proofs.Rooms.Places.{source_has_tokens, source_is_short, source_placed}

@@ -1,12 +1,10 @@
-use Rattle.std.proofs.Common.{refl}
-use Rattle.std.proofs.lemmas.Result.{err_from_is_err_and}
+use Rattle.std.proofs.{Common.refl, lemmas.Result.err_from_is_err_and}
 use Rattle.pc_args.specs.Line.{IsSeed}
 use Rattle.pc_io.specs.Sink.{change}
 use Rattle.pc_refusals.specs.Verdict.{files_change, named}
 use Rattle.pc_refusals.proofs.Ending.{stop_ends}
 use Rattle.pc_top.specs.Commands.Play.{IsPlay, Played}
-use Rattle.pc_top.proofs.Deriving.{accepted_lacks_nothing}
-use Rattle.pc_top.proofs.NumberRoom.{number_ends, number_stops}
+use Rattle.pc_top.proofs.{Deriving.accepted_lacks_nothing, NumberRoom.{number_ends, number_stops}}
 use Rattle.pc_top.proofs.commands.play.play_source.Goals as goal
 
 pub returns-in_err-read-clause-ends : goal.returns-in_err-read-clause-ends

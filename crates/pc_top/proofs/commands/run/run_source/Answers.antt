@@ -1,17 +1,11 @@
-use Rattle.std.proofs.Common.{List, inl, inr, refl}
-use Rattle.std.proofs.lemmas.Result.{err_from_is_err_and}
+use Rattle.std.proofs.{Common.{List, inl, inr, refl}, lemmas.Result.err_from_is_err_and}
 use Rattle.pc_io.specs.Sink.{change}
 use Rattle.pc_run.specs.Spreading.{spread}
-use Rattle.pc_sched.specs.Schedules.{schedule_limit}
-use Rattle.pc_sched.specs.declared.turns.Turn.{Turn}
-use Rattle.pc_refusals.specs.Source.{AcceptedStage, ScheduleStage, source_limit}
-use Rattle.pc_refusals.specs.Verdict.{files_change, named}
-use Rattle.pc_refusals.specs.declared.typing.Accepted.{Accepted}
-use Rattle.pc_refusals.proofs.Ending.{both_end, both_stop, stop_ends}
-use Rattle.pc_refusals.proofs.Scheduled.{few_turns}
-use Rattle.pc_core_commands.specs.Run.{Ran}
-use Rattle.pc_top.specs.Commands.Run.{IsRun}
-use Rattle.pc_top.specs.Shapes.{UnreadScheduled}
+use Rattle.pc_sched.specs.{Schedules.schedule_limit, declared.turns.Turn.Turn}
+use Rattle.pc_refusals.specs.{Source.{AcceptedStage, ScheduleStage, source_limit}, Verdict.{files_change, named}, declared.typing.Accepted.Accepted}
+use Rattle.pc_refusals.proofs.{Ending.{both_end, both_stop, stop_ends}, Scheduled.few_turns}
+use Rattle.pc_commands.specs.Run.{Ran}
+use Rattle.pc_top.specs.{Commands.Run.IsRun, Shapes.UnreadScheduled}
 use Rattle.pc_top.proofs.Deriving.{accepted_lacks_nothing}
 use Rattle.pc_top.proofs.commands.run.run_source.Goals as goal
 

@@ -1,5 +1,4 @@
-use Rattle.std.proofs.Common.{Ok, refl}
-use Rattle.std.proofs.lemmas.Result.{err_from_is_err_and}
+use Rattle.std.proofs.{Common.{Ok, refl}, lemmas.Result.err_from_is_err_and}
 use Rattle.pc_args.specs.Line.{IsSeed}
 use Rattle.pc_refusals.specs.Verdict.{files_change, done}
 use Rattle.pc_top.specs.Commands.Schedule.{Scheduled}

@@ -1,12 +1,7 @@
-use Rattle.std.proofs.Common.{Ok, Err, ap}
-use Rattle.std.proofs.lemmas.Result.{err_from_is_err_and}
+use Rattle.std.proofs.{Common.{Ok, Err, ap}, lemmas.Result.err_from_is_err_and}
 use Rattle.pc_tree.specs.View.{file_view}
-use Rattle.pc_refusals.specs.Source.After.{stops}
-use Rattle.pc_refusals.specs.Verdict.{FailedAt, files_change, named, done}
-use Rattle.pc_refusals.specs.Source.{FileStage, SyntaxStage, source_limit}
-use Rattle.pc_refusals.specs.Source.Length.{is_longer}
-use Rattle.pc_refusals.proofs.Ending.{part_answers, part_stops}
-use Rattle.pc_refusals.proofs.Parts.{not_read, whole_ends}
+use Rattle.pc_refusals.specs.{Source.After.stops, Verdict.{FailedAt, files_change, named, done}, Source.{FileStage, SyntaxStage, source_limit}, Source.Length.is_longer}
+use Rattle.pc_refusals.proofs.{Ending.{part_answers, part_stops}, Parts.{not_read, whole_ends}}
 use Rattle.pc_top.specs.Commands.Show.{Shown}
 use Rattle.pc_top.proofs.commands.show.show_source.Goals as goal
 

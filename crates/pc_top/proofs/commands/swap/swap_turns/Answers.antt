@@ -2,9 +2,7 @@ use Rattle.std.proofs.Common.{refl}
 use Rattle.pc_refusal_lines.specs.Lines.{usage_line}
 use Rattle.pc_refusals.specs.Verdict.{files_change, named}
 use Rattle.pc_refusals.proofs.Ending.{answers_by, words_stop}
-use Rattle.pc_top.specs.Commands.Swap.{IsSwap, IsSwapAt, UnreadSwap}
-use Rattle.pc_top.specs.Commands.Swap.IsSwap.{no_number, placed}
-use Rattle.pc_top.specs.Shapes.{UnreadScheduled}
+use Rattle.pc_top.specs.{Commands.Swap.{IsSwap, IsSwapAt, UnreadSwap}, Commands.Swap.IsSwap.{no_number, placed}, Shapes.UnreadScheduled}
 use Rattle.pc_top.proofs.commands.swap.swap_turns.Goals as goal
 
 pub returns-in-Some-clause-answers : goal.returns-in-Some-clause-answers

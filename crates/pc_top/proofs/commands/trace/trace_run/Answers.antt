@@ -1,14 +1,9 @@
-use Rattle.std.proofs.Common.{List, inl, inr}
-use Rattle.std.proofs.lemmas.Result.{err_from_is_err_and}
+use Rattle.std.proofs.{Common.{List, inl, inr}, lemmas.Result.err_from_is_err_and}
 use Rattle.pc_run.specs.Spreading.{spread}
-use Rattle.pc_sched.specs.Schedules.{schedule_limit}
-use Rattle.pc_sched.specs.declared.turns.Turn.{Turn}
-use Rattle.pc_refusals.specs.Source.{AcceptedStage, ScheduleStage, source_limit}
-use Rattle.pc_refusals.specs.Verdict.{files_change, named, EndsWith}
-use Rattle.pc_refusals.specs.declared.typing.Accepted.{Accepted}
-use Rattle.pc_refusals.proofs.Ending.{both_answer, both_stop, last_ends}
-use Rattle.pc_refusals.proofs.Scheduled.{few_turns}
-use Rattle.pc_core_commands.specs.Trace.{Tracing}
+use Rattle.pc_sched.specs.{Schedules.schedule_limit, declared.turns.Turn.Turn}
+use Rattle.pc_refusals.specs.{Source.{AcceptedStage, ScheduleStage, source_limit}, Verdict.{files_change, named, EndsWith}, declared.typing.Accepted.Accepted}
+use Rattle.pc_refusals.proofs.{Ending.{both_answer, both_stop, last_ends}, Scheduled.few_turns}
+use Rattle.pc_commands.specs.Trace.{Tracing}
 use Rattle.pc_top.specs.Shapes.{UnreadScheduled}
 use Rattle.pc_top.proofs.Deriving.{accepted_core_safe}
 use Rattle.pc_top.proofs.commands.trace.trace_run.Goals as goal

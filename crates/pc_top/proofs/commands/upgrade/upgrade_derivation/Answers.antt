@@ -1,15 +1,9 @@
-use Rattle.std.proofs.Common.{inl, inr}
-use Rattle.std.proofs.lemmas.Result.{err_from_is_err_and}
+use Rattle.std.proofs.{Common.{inl, inr}, lemmas.Result.err_from_is_err_and}
 use Rattle.pc_ann.specs.declared.annotation.Ann.{Ann}
 use Rattle.pc_deriv.specs.Text.{derivation_limit, deriv_text}
 use Rattle.pc_deriv.specs.declared.version.Version.TheVariants as version
-use Rattle.pc_refusals.specs.Derivation.{DerivationStage, Judging}
-use Rattle.pc_refusals.specs.Verdict.{files_change, named, EndsAs}
-use Rattle.pc_refusals.specs.Source.{SourceStage, source_limit}
-use Rattle.pc_refusals.specs.declared.source.Source.{Source}
-use Rattle.pc_refusals.proofs.Derivations.{few}
-use Rattle.pc_refusals.proofs.Ending.{both_answer, both_stop, part_stops}
-use Rattle.pc_refusals.proofs.TwoFiles.{both_later, both_same, second_gives, second_stops}
+use Rattle.pc_refusals.specs.{Derivation.{DerivationStage, Judging}, Verdict.{files_change, named, EndsAs}, Source.{SourceStage, source_limit}, declared.source.Source.Source}
+use Rattle.pc_refusals.proofs.{Derivations.few, Ending.{both_answer, both_stop, part_stops}, TwoFiles.{both_later, both_same, second_gives, second_stops}}
 use Rattle.pc_top.specs.Shapes.{OfJudged, UnreadDerivation}
 use Rattle.pc_top.proofs.Deriving.{never_longer}
 use Rattle.pc_top.proofs.commands.upgrade.upgrade_derivation.Goals as goal

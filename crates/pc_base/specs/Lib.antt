@@ -1,0 +1,4 @@
+pub mod formers
+pub mod Limits
+pub mod Counts
+pub mod Lists

@@ -1,5 +1,0 @@
-use Rattle.pc_buffers.proofs.LinesNameSpans.{lines_name}
-use Rattle.pc_buffers.proofs.laws.lines_name_spans.Goals as goal
-
-pub returns : goal.returns
-returns c = lines_name

@@ -1,6 +1,0 @@
-use Rattle.pc_call.proofs.Asked.{answers_as}
-use Rattle.pc_call.proofs.Commands.{explained}
-use Rattle.pc_call.proofs.sources.explain.Goals as goal
-
-pub returns : goal.returns
-returns c = answers_as _ _ _ _ _ _ _ (explained c.written_forms_are_taken.ensures c.args.source.now) c.ask.ensures.answers

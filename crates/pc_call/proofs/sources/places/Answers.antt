@@ -1,6 +1,0 @@
-use Rattle.pc_call.proofs.Asked.{answers_as}
-use Rattle.pc_call.proofs.Commands.{placed}
-use Rattle.pc_call.proofs.sources.places.Goals as goal
-
-pub returns : goal.returns
-returns c = answers_as _ _ _ _ _ _ _ (placed c.written_forms_are_taken.ensures c.args.source.now) c.ask.ensures.answers

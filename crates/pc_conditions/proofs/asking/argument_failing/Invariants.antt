@@ -1,9 +1,0 @@
-use Rattle.std.proofs.Common.{◌≡◌, drop}
-use Rattle.pc_conditions.specs.Conditions as asked
-use Rattle.pc_conditions.specs.Failing as spec
-use Rattle.pc_conditions.proofs.asking.argument_failing.Given as goal
-
-abbrev pub invariant-loop-param : goal.invariant-loop-param
-invariant-loop-param l =
-    let holds = spec.holds_of l.site.core.now l.site.slots.now l.site.children.now l.site.node.now (l.site.live, l.site.set) in
-    (l.at ≡ l.param-index) × (spec.first_false holds (asked.argument_conditions l.at (drop l.param-index l.params)) ≡ spec.first_false holds (asked.argument_conditions 0 l.params))

@@ -1,5 +1,0 @@
-use Rattle.pc_conditions.proofs.One.{one_explanation}
-use Rattle.pc_conditions.proofs.laws.one_explanation.Goals as goal
-
-pub returns : goal.returns
-returns c = one_explanation

@@ -1,0 +1,95 @@
+-- A node at which no rule holds, and what can be read from it.
+use Rattle.std.specs.Prelude.{ℕ, ◌-◌, [], length, Option, Some, None, slice_get}
+use Rattle.pc_caps.specs.declared.capability.Form.{Form}
+use Rattle.pc_core.specs.{CoreData.CoreData, declared.declarations.EntityDef.EntityDef, declared.declarations.FieldInfo.FieldInfo, declared.declarations.Method.Method, declared.nodes.Node.Node, declared.nodes.NodeKind.NodeKind}
+use Rattle.pc_base.specs.Lists.{◌>>=◌, Text}
+use Rattle.pc_masks.specs.declared.mask.Mask.{Mask}
+use Rattle.pc_explain_parts.specs.Members.{node_callee}
+use Rattle.pc_explain_words.specs.{Forms.{entity_name, name_text}, Scene.{SceneData, child, slot_name, noted_type}}
+use Rattle.pc_caps.specs.declared.capability.Form.TheVariants as form
+use Rattle.pc_core.specs.declared.nodes.NodeKind.TheVariants as node
+
+-- The node, its number, and the masks before it.
+pub record StopData : Type 0 where
+  pub scene : SceneData
+  pub number : ℕ
+  pub at : Node
+  pub live : Mask
+  pub set : Mask
+
+-- ---- its children
+
+unfoldable pub child_type : StopData → ℕ → Option (ℕ × Form)
+child_type st i = do
+  c ← child st.at i
+  noted_type st.scene c
+
+abbrev pub form_of : Option (ℕ × Form) → Form
+form_of None = form.Tag
+form_of (Some ty) = ty.1
+
+-- The form of the child. It is not used if the child has no type.
+unfoldable pub child_form : StopData → ℕ → Form
+child_form st i = form_of (child_type st i)
+
+abbrev pub name_of_type_entity : CoreData → Option (ℕ × Form) → Text
+name_of_type_entity core None = []
+name_of_type_entity core (Some ty) = entity_name core ty.0
+
+-- The name of the entity of the child.
+unfoldable pub child_entity : StopData → ℕ → Text
+child_entity st i = name_of_type_entity st.scene.core (child_type st i)
+
+abbrev pub receiver_child_index : StopData → ℕ
+receiver_child_index st = length st.at.children - 1
+
+-- ---- what it names
+
+-- The method whose parameters the arguments go to.
+abbrev pub method_by : StopData → NodeKind → Option Method
+method_by st (node.New m) = slice_get st.scene.core.methods m
+method_by st (node.Spawn m) = slice_get st.scene.core.methods m
+method_by st (node.Call name) = node_callee st.scene st.at name
+method_by st k = None
+
+unfoldable pub node_method : StopData → Option Method
+node_method st = method_by st st.at.kind
+
+abbrev pub name_by : NodeKind → ℕ
+name_by (node.Field name) = name
+name_by (node.SetField name) = name
+name_by (node.Call name) = name
+name_by k = 0
+
+-- The name of a slot of the node's method.
+unfoldable pub own_slot : StopData → ℕ → Text
+own_slot st k = slot_name st.scene st.at.method k
+
+-- The text of the name of the field or the method that the node names.
+unfoldable pub named_member : StopData → Text
+named_member st = name_text st.scene.core (name_by st.at.kind)
+
+-- ---- its method's entity
+
+abbrev pub name_of_method_entity : CoreData → Option Method → Text
+name_of_method_entity core None = []
+name_of_method_entity core (Some x) = entity_name core x.entity
+
+unfoldable pub own_entity : StopData → Text
+own_entity st = name_of_method_entity st.scene.core (slice_get st.scene.core.methods st.at.method)
+
+abbrev pub field_text : CoreData → Option FieldInfo → Text
+field_text core None = []
+field_text core (Some f) = name_text core f.name
+
+abbrev pub field_text_in : CoreData → Option EntityDef → ℕ → Text
+field_text_in core None i = []
+field_text_in core (Some e) i = field_text core (slice_get e.fields i)
+
+abbrev pub field_by : CoreData → Option Method → ℕ → Text
+field_by core None i = []
+field_by core (Some x) i = field_text_in core (slice_get core.entities x.entity) i
+
+-- The name of the field with this index of its method's entity.
+unfoldable pub own_field_name : StopData → ℕ → Text
+own_field_name st i = field_by st.scene.core (slice_get st.scene.core.methods st.at.method) i

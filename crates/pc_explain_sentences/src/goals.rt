@@ -1,0 +1,274 @@
+//! Where a child's value goes, and the forms of children in words.
+ghost use Rattle.std.specs.Prelude.{◌≡◌, ◌++◌, OnOk};
+ghost use Rattle.std.specs.Option.{option_copied};
+ghost use Rattle.pc_explain_sentences.specs.Goals as spec;
+
+use crate::stop::Stop;
+use pc_caps::{Cap, Form, sendable_form};
+use pc_core::{Method, MethodKind, NodeKind};
+use pc_explain_parts::{child_role, push_role};
+use pc_explain_window::{piece_of, push_bytes, push_quoted};
+use pc_explain_words::{
+    Scene, cap_word, form_word, name_text, push_fitting, push_takes, push_with_article,
+};
+use std::alloc::{AllocError, Global};
+
+/// Appends the words for the child with this index.
+#[tactic(auto, unfolding(crate::specs::Goals::part))]
+pub(crate) fn push_part(
+    alloc: Global,
+    out: &mut Vec<u8>,
+    stop: &Stop,
+    index: usize,
+) -> Result<(), AllocError>
+    ensures { OnOk result (out.new.items ≡ out.old.items ++ spec.part stop.now index) }
+{
+    push_role(alloc, out, child_role(stop.node(), index))
+}
+
+// The name of a method's parameter.
+fn param_by<'a>(scene: &Scene<'a>, method: Option<&Method>, index: usize) -> &'a [u8]
+    ensures { result.now ≡ spec.param_by scene.now (option_copied method.entry) index }
+{
+    match method {
+        Some(found) => match found.params.get(index) {
+            Some(param) => piece_of(scene.bytes(), param.span),
+            None => b"",
+        },
+        None => b"",
+    }
+}
+
+// Appends a name after a blank, if there is one.
+#[tactic(auto, unfolding(crate::specs::Goals::name_after))]
+fn push_name_after(alloc: Global, out: &mut Vec<u8>, name: &[u8]) -> Result<(), AllocError>
+    ensures { OnOk result (out.new.items ≡ out.old.items ++ spec.name_after name.now) }
+{
+    match name {
+        [] => Ok(()),
+        [_, ..] => {
+            push_bytes(out, b" ")?;
+            push_quoted(alloc, out, name)
+        }
+    }
+}
+
+// Appends the parameter that an argument goes to.
+fn push_parameter(
+    alloc: Global,
+    out: &mut Vec<u8>,
+    stop: &Stop,
+    index: usize,
+) -> Result<(), AllocError>
+    ensures { OnOk result (out.new.items ≡ out.old.items ++ spec.param_words stop.now index) }
+{
+    push_bytes(out, b"the parameter")?;
+    push_name_after(alloc, out, param_by(stop.scene(), stop.method(), index))
+}
+
+// Appends the field that a value goes to.
+fn push_field(alloc: Global, out: &mut Vec<u8>, name: &[u8]) -> Result<(), AllocError>
+    ensures { OnOk result (out.new.items ≡ out.old.items ++ spec.field_goal name.now) }
+{
+    push_bytes(out, b"the field ")?;
+    push_quoted(alloc, out, name)
+}
+
+/// Appends the place that a child's value goes to: a field, a local, a parameter or the result.
+#[tactic(auto, unfolding(crate::specs::Goals::goal))]
+pub(crate) fn push_goal(
+    alloc: Global,
+    out: &mut Vec<u8>,
+    stop: &Stop,
+    index: usize,
+) -> Result<(), AllocError>
+    ensures { OnOk result (out.new.items ≡ out.old.items ++ spec.goal stop.now index) }
+{
+    match &stop.node().kind {
+        NodeKind::SetField(name) => push_field(alloc, out, name_text(stop.core(), *name)),
+        NodeKind::Define(slot) | NodeKind::Assign(slot) => {
+            push_quoted(alloc, out, stop.own_slot(*slot))
+        }
+        NodeKind::New(_) | NodeKind::Spawn(_) | NodeKind::Call(_) => {
+            push_parameter(alloc, out, stop, index)
+        }
+        NodeKind::Body => push_bytes(out, b"the result"),
+        NodeKind::Number(_)
+        | NodeKind::Truth(_)
+        | NodeKind::Text(_)
+        | NodeKind::Prim(_)
+        | NodeKind::This
+        | NodeKind::Local(_)
+        | NodeKind::Consume(_)
+        | NodeKind::Field(_)
+        | NodeKind::Binary(_)
+        | NodeKind::Not
+        | NodeKind::And
+        | NodeKind::Or
+        | NodeKind::Same(_)
+        | NodeKind::Seq
+        | NodeKind::If
+        | NodeKind::While
+        | NodeKind::Recover(_) => Ok(()),
+    }
+}
+
+fn is_alias(form: Form) -> bool
+    ensures { result ≡ spec.is_alias form }
+{
+    match form {
+        Form::Iso | Form::Trn => true,
+        Form::IsoE | Form::TrnE | Form::Ref | Form::Val | Form::Box | Form::Tag => false,
+    }
+}
+
+// Whether the method is a behaviour.
+fn is_sent(method: Option<&Method>) -> bool
+    ensures { result ≡ spec.is_sent (option_copied method.entry) }
+{
+    match method {
+        Some(found) => match found.kind {
+            MethodKind::Be => true,
+            MethodKind::Fun | MethodKind::New | MethodKind::Spawn => false,
+        },
+        None => false,
+    }
+}
+
+// Whether the node sends its arguments.
+fn sends(stop: &Stop) -> bool
+    ensures { result ≡ spec.sends_arguments stop.now }
+{
+    match &stop.node().kind {
+        NodeKind::Spawn(_) => true,
+        NodeKind::Call(_) => is_sent(stop.method()),
+        NodeKind::Number(_)
+        | NodeKind::Truth(_)
+        | NodeKind::Text(_)
+        | NodeKind::Prim(_)
+        | NodeKind::This
+        | NodeKind::Local(_)
+        | NodeKind::Consume(_)
+        | NodeKind::Field(_)
+        | NodeKind::SetField(_)
+        | NodeKind::Define(_)
+        | NodeKind::Assign(_)
+        | NodeKind::New(_)
+        | NodeKind::Binary(_)
+        | NodeKind::Not
+        | NodeKind::And
+        | NodeKind::Or
+        | NodeKind::Same(_)
+        | NodeKind::Seq
+        | NodeKind::If
+        | NodeKind::While
+        | NodeKind::Recover(_)
+        | NodeKind::Body => false,
+    }
+}
+
+fn form_note(sent: bool, form: Form) -> &'static [u8]
+    ensures { result.now ≡ spec.form_note sent form }
+{
+    if is_alias(form) {
+        b", an alias,"
+    } else if sent && !sendable_form(form) {
+        b", which is not sendable,"
+    } else {
+        b""
+    }
+}
+
+// Appends a form that was found, with a description.
+#[tactic(auto, unfolding(crate::specs::Goals::found))]
+fn push_found(out: &mut Vec<u8>, stop: &Stop, form: Form) -> Result<(), AllocError>
+    ensures { OnOk result (out.new.items ≡ out.old.items ++ spec.found stop.now form) }
+{
+    push_bytes(out, form_word(form))?;
+    push_bytes(out, form_note(sends(stop), form))
+}
+
+/// Appends `R has the form F`.
+#[tactic(auto, unfolding(crate::specs::Goals::has_form))]
+pub(crate) fn push_form(
+    alloc: Global,
+    out: &mut Vec<u8>,
+    stop: &Stop,
+    index: usize,
+) -> Result<(), AllocError>
+    ensures { OnOk result (out.new.items ≡ out.old.items ++ spec.has_form stop.now index) }
+{
+    push_part(alloc, out, stop, index)?;
+    push_bytes(out, b" has the form ")?;
+    push_bytes(out, form_word(stop.child_form(index)))
+}
+
+// Appends which forms the place of a child takes.
+#[tactic(auto, unfolding(crate::specs::Goals::place_takes))]
+fn push_place_takes(
+    alloc: Global,
+    out: &mut Vec<u8>,
+    stop: &Stop,
+    index: usize,
+    cap: Cap,
+) -> Result<(), AllocError>
+    ensures { OnOk result (out.new.items ≡ out.old.items ++ spec.place_takes stop.now index cap) }
+{
+    push_bytes(out, b" and ")?;
+    push_goal(alloc, out, stop, index)?;
+    push_bytes(out, b", ")?;
+    push_with_article(alloc, out, cap_word(cap))?;
+    push_bytes(out, b", ")?;
+    push_takes(out, cap)
+}
+
+/// Appends that the form of a child does not fit its place.
+#[tactic(auto, unfolding(crate::specs::Goals::part_unfit))]
+pub(crate) fn push_part_unfit(
+    alloc: Global,
+    out: &mut Vec<u8>,
+    stop: &Stop,
+    index: usize,
+    cap: Cap,
+) -> Result<(), AllocError>
+    ensures { OnOk result (out.new.items ≡ out.old.items ++ spec.part_unfit stop.now index cap) }
+{
+    push_part(alloc, out, stop, index)?;
+    push_bytes(out, b" has the form ")?;
+    push_found(out, stop, stop.child_form(index))?;
+    push_place_takes(alloc, out, stop, index, cap)
+}
+
+/// Appends that the form of a receiver does not fit.
+#[tactic(auto, unfolding(crate::specs::Goals::receiver_unfit))]
+pub(crate) fn push_receiver_unfit(
+    alloc: Global,
+    out: &mut Vec<u8>,
+    stop: &Stop,
+    index: usize,
+    cap: Cap,
+) -> Result<(), AllocError>
+    ensures { OnOk result (out.new.items ≡ out.old.items ++ spec.receiver_unfit stop.now index cap) }
+{
+    push_bytes(out, b"the receiver has the form ")?;
+    push_bytes(out, form_word(stop.child_form(index)))?;
+    push_bytes(out, b", which does not fit ")?;
+    push_bytes(out, cap_word(cap))?;
+    push_method_takes(alloc, out, stop.named(), cap)
+}
+
+// Appends which forms a method takes as its receiver.
+#[tactic(auto, unfolding(crate::specs::Goals::method_takes))]
+fn push_method_takes(
+    alloc: Global,
+    out: &mut Vec<u8>,
+    name: &[u8],
+    cap: Cap,
+) -> Result<(), AllocError>
+    ensures { OnOk result (out.new.items ≡ out.old.items ++ spec.method_takes name.now cap) }
+{
+    push_bytes(out, b": ")?;
+    push_quoted(alloc, out, name)?;
+    push_bytes(out, b" takes its receiver as ")?;
+    push_fitting(out, cap)
+}

@@ -1,0 +1,22 @@
+use Rattle.std.proofs.Common.{refl}
+use Rattle.std.specs.Prelude.{codes}
+use Rattle.pc_args.specs.Asked.{events}
+use Rattle.pc_top.specs.{CoreOf.{HasSafeCore, IsDerivable}, IsolatedCore.HasIsolatedCore}
+use Rattle.pc_lib_buffers.specs.declared.beside.Beside.TheVariants.{Schedule}
+use Rattle.pc_lib_call.proofs.{Asked.answers_as, Commands.{events_asks, happened}, Exactly.{of_source, underivable}}
+use Rattle.pc_lib_call.proofs.runs.events.Goals as goal
+
+pub returns-clause-answers : goal.returns-clause-answers
+returns-clause-answers c = answers_as _ _ _ _ _ _ _ (happened c.written_forms_are_taken.ensures c.args.source.now c.args.schedule) c.ask.ensures.answers
+
+pub returns-clause-exact : goal.returns-clause-exact
+returns-clause-exact c other = underivable c.statuses_are_exact.ensures (events (codes "source") (codes "schedule")) _ c.args.source.now (Schedule c.args.schedule) (events_asks c.written_forms_are_taken.ensures c.args.source.now) refl tt refl _ c.ask.result _ _ _ c.ask.ensures.answers other
+
+pub returns-clause-accepted : goal.returns-clause-accepted
+returns-clause-accepted c accepting = of_source IsDerivable (events (codes "source") (codes "schedule")) _ c.args.source.now (Schedule c.args.schedule) (events_asks c.written_forms_are_taken.ensures c.args.source.now) refl (c.ask.ensures.accepted accepting)
+
+pub returns-clause-safe : goal.returns-clause-safe
+returns-clause-safe c accepting = of_source HasSafeCore (events (codes "source") (codes "schedule")) _ c.args.source.now (Schedule c.args.schedule) (events_asks c.written_forms_are_taken.ensures c.args.source.now) refl (c.ask.ensures.safe accepting)
+
+pub returns-clause-isolated : goal.returns-clause-isolated
+returns-clause-isolated c accepting = of_source HasIsolatedCore (events (codes "source") (codes "schedule")) _ c.args.source.now (Schedule c.args.schedule) (events_asks c.written_forms_are_taken.ensures c.args.source.now) refl (c.ask.ensures.isolated accepting)

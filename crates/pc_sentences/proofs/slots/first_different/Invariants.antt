@@ -1,7 +1,0 @@
-use Rattle.std.proofs.Common.{◌≡◌, ◌-◌}
-use Rattle.pc_caps.specs.Limits.{field_limit}
-use Rattle.pc_sentences.specs.Slots.{differs, least}
-use Rattle.pc_sentences.proofs.slots.first_different.Given as goal
-
-abbrev pub invariant-loop-field : goal.invariant-loop-field
-invariant-loop-field l = least (differs l.before l.after) (field_limit - l.field) l.field ≡ least (differs l.before l.after) field_limit 0
