@@ -5,6 +5,7 @@ pub mod EntityFits
 pub mod Entities
 pub mod Methods
 pub mod Nodes
+pub mod Kinds
 pub mod Formed
 pub mod Members
 pub mod Growing

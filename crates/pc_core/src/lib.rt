@@ -13,6 +13,7 @@ mod cores;
 mod declarations;
 mod entity_set;
 mod index;
+mod kinds;
 mod lookup;
 mod nodes;
 
@@ -20,4 +21,5 @@ pub use children::Children;
 pub use cores::Core;
 pub use declarations::{EntityDef, FieldInfo, Method, MethodKind, ParamInfo};
 pub use entity_set::EntitySet;
+pub use kinds::{Connective, Operation};
 pub use nodes::{Node, NodeKind, Slot, SlotKind};
