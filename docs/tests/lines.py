@@ -3,6 +3,7 @@
 import re
 
 import pages
+from imports import imported
 
 CRATES = pages.TOP / "crates"
 
@@ -34,11 +35,11 @@ def files_of(commands):
 
 LATER = files_of(LATER_COMMANDS)
 
-# An import of definitions of a crate: of one module, as a whole or names of it, or of names with the ways to them. Types
-# that come from the code are `declared`.
-IMPORT = re.compile(r"^use Rattle\.(pc_\w+)\.specs\.(?:\{([^}]*)\}|(\w+(?:\.\w+)*))", re.MULTILINE)
-
+# Imports of what comes from the code: types, and what the contracts of functions say.
 NOT_WRITTEN = ("declared", "contracts")
+
+# How the names of this repository's crates begin. The standard library's are not read.
+OWN = "pc_"
 
 
 def file_of(crate, name):
@@ -57,11 +58,10 @@ def filled(files):
 
 def ways_of(text):
     """The crates and ways of the imports of a text."""
-    for crate, names, way in IMPORT.findall(text):
-        yield from ((crate, it.strip()) for it in (names.split(",") if names else [way]))
+    return {(it.crate, it.whole_way()) for it in imported(text, "specs") if it.crate.startswith(OWN)}
 
 
-def imported(crate, way):
+def file_at(crate, way):
     """The file of definitions to which the way of an import leads. After it the way may go on to a type or a name of it."""
     parts = way.split(".")
     ways = ["/".join(parts[:count]) for count in range(len(parts), 0, -1)]
@@ -76,7 +76,7 @@ def imports(starts, leave_out=(), without=()):
         if one not in seen and one not in without:
             seen.add(one)
             ways = ways_of(file_of(*one).read_text())
-            uses = [imported(*it) for it in ways if it[1].split(".")[0] not in NOT_WRITTEN]
+            uses = [file_at(*it) for it in ways if it[1].split(".")[0] not in NOT_WRITTEN]
             left += [it for it in uses if it[0] not in leave_out]
     return seen
 
