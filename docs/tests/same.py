@@ -1,6 +1,7 @@
-"""What several places say is the same: the launcher's help, README.md and docs/commands.md, and the lines to be read in
-docs/theorem.md and the files."""
+"""What several places say is the same: the launcher's help, README.md and docs/commands.md, the lines to be read in
+docs/theorem.md and the files, and the tests that tests.txt names and those that are there."""
 
+import fnmatch
 import re
 import subprocess
 
@@ -132,8 +133,37 @@ def look_at_text(results):
         results.check(refused, f"docs/read {' '.join(words)}: is refused", ended.returncode)
 
 
+def lines_of(name):
+    """What is before and after the colon of each line of a file that is no comment."""
+    lines = (pages.TOP / name).read_text().splitlines()
+    return [line.partition(":")[::2] for line in lines if line and not line.startswith("#")]
+
+
+def file_of_test(command, name):
+    """The file that a name after a test is of."""
+    return pages.TOP / "rows" / f"{name}.py" if command == "rows/test" else pages.TOP / name
+
+
+def look_at_tests(results):
+    """Compares the crates and the tests of tests.txt with those that are there."""
+    crates, lines = [head.split()[0] for head, _ in lines_of("crates.txt")], lines_of("tests.txt")
+    names = [name for head, _ in lines for name in head.split()]
+    unlisted = [crate for crate in crates if not any(fnmatch.fnmatchcase(crate, name) for name in names)]
+    results.check(not unlisted, "tests.txt: each crate has a line", unlisted)
+    needless = [name for name in names if not fnmatch.filter(crates, name)]
+    results.check(not needless, "tests.txt: each name is one of a crate", needless)
+    tests = [test.split() for _, tests in lines for test in tests.split(",") if test.strip()]
+    files = [pages.TOP / command for command, *_ in tests]
+    files += [file_of_test(command, name) for command, *more in tests for name in more]
+    missing = [str(it) for it in files if not it.exists()]
+    results.check(not missing, "tests.txt: the tests are there", missing)
+    without = sorted(set((pages.TOP / "rows").glob("*.py")) - set(files))
+    results.check(not without, "tests.txt: each file of rows is of a crate", without)
+
+
 def look(found, results):
     """Compares all of these."""
     look_at_help(found, results)
     look_at_lines(found, results)
     look_at_text(results)
+    look_at_tests(results)

@@ -93,6 +93,10 @@ class Checkout:
         lines = file.read_text().splitlines() if file.exists() else []
         return [line.split()[1] for line in lines if line.split()[0] == verb]
 
+    def words_of(self, verb):
+        """The words of each call of the stand-in after the verb and the crate, in order."""
+        return [line.split()[2:] for line in (self.stand_in / "calls").read_text().splitlines() if line.split()[0] == verb]
+
     def tell(self, name, text=""):
         """Puts a file where the stand-in looks for it."""
         (self.stand_in / name).write_text(text)
