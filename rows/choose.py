@@ -3,7 +3,7 @@ what is played, and each different outcome."""
 
 from programs import BANK, DOUBLES, HELLO, READERS, UNSENDABLE
 from steps import Row
-from tables import USAGE, answered, between, cut, named, refusals, same_run, spoken
+from tables import USAGE, answered, between, cut, long, named, refusals, same_run, spoken
 
 PRINTS = b"actor Main\n  new create(env: Env) => env.out.print(\"\")\n"
 
@@ -41,12 +41,16 @@ SCHEDULED = [
     # Counts 63, 44, 60 and 60. The second turn draws place 1 of the readers, and the third place 1 of the stream and the
     # other.
     ("draws of places and counts", "1", READERS, b"1*43 3*29 2*29 0*2\n"),
-    ("a program without an end", "0", ENDLESS, b"1*1000000\n"),
 ]
+
+LONG_SCHEDULED = [("a program without an end", "0", ENDLESS, b"1*1000000\n")]
 
 PLAYED = [
     ("a greeting", "0", HELLO, b"hi\nsteps 11 skipped 0 actors 2 objects 3 waiting 0\n"),
     ("two readers", "1", READERS, b"5\n5\nsteps 103 skipped 0 actors 4 objects 6 waiting 0\n"),
+]
+
+LONG_PLAYED = [
     ("a program without an end", "0", ENDLESS, b"steps 1000000 skipped 0 actors 2 objects 3 waiting 0\n"),
     # Main and 94,999 more each have a turn of six steps, in which they make an actor. The last one that is made has none.
     ("actors that make actors", "0", CHAIN, b"steps 570000 skipped 0 actors 95002 objects 95003 waiting 1\n"),
@@ -57,9 +61,10 @@ TABLED = [
     ("one play", "1", HELLO, b"seed 0: 1 of 1, 11 steps\n  hi\n"),
     ("two plays, with leading zeros", "00002", HELLO, b"seed 0: 2 of 2, 11 steps\n  hi\n"),
     ("an empty text", "2", PRINTS, b"seed 0: 2 of 2, 11 steps\n  \n"),
-    ("a play that is cut", "1", ENDLESS, b"seed 0: 1 of 1, 1000000 steps (cut)\n"),
     ("a text that is too long", "1", DOUBLES, b"seed 0: 1 of 1, 157 steps (too long)\n  go\n"),
 ]
+
+LONG_TABLED = [("a play that is cut", "1", ENDLESS, b"seed 0: 1 of 1, 1000000 steps (cut)\n")]
 
 # By round robin Main comes first, and then the actors in the order in which they were made. Other seeds have them in the opposite
 # order, which is the last entry of the table.
@@ -104,7 +109,9 @@ def chosen(title, command, rows):
 
 ROWS = [
     *chosen("a schedule is that by hand", "schedule", SCHEDULED),
+    *long(chosen("a schedule is that by hand", "schedule", LONG_SCHEDULED)),
     *chosen("a play writes its text", "play", PLAYED),
+    *long(chosen("a play writes its text", "play", LONG_PLAYED)),
     cut("a play ends at a text that is too long", PLAY, DOUBLES, b"", 12, b"go\n", b"a.pony: text too long at step 157\n"),
     *(
         same_run(f"a play is the run by the line of its schedule: {name}, seed {seed}", source, seed)
@@ -112,6 +119,7 @@ ROWS = [
         for name, source in PROGRAMS
     ),
     *chosen("a table has each outcome", "outcomes", TABLED),
+    *long(chosen("a table has each outcome", "outcomes", LONG_TABLED)),
     *chosen("a table shows both outcomes", "outcomes", [(name, count, TWO, between(b"seed 0: ", end)) for name, count, end in BOTH]),
     *spoken("words without such numbers are refused", HELLO, NO_NUMBERS),
     *refusals("a source is refused (schedule)", SCHEDULE, REFUSED),

@@ -1,7 +1,7 @@
 """`run` on whole programs: what is written under which schedule, and what is refused."""
 
 from programs import BANK, CHAIN, DOUBLES, HELLO, NUMBERS, READERS, UNSENDABLE
-from tables import RUN, answers, cut, refusals
+from tables import RUN, answers, cut, long, refusals
 
 TRUTHS = b"""\
 actor Main
@@ -111,8 +111,9 @@ RUNS = [
     ("the names in a body are those of the class", OWN_NAMES, b"1*75 0*2", b"a1\nb2\nsteps 77 skipped 0 actors 2 objects 5 waiting 0\n"),
     ("each actor has the behaviour", TOLD, b"1*23 2*24 3*24 0*2", b"a\nb\nsteps 73 skipped 0 actors 4 objects 5 waiting 0\n"),
     ("an own method", OF_AN_INTERFACE, b"1*60 0*3", b"one\nother\none\nsteps 63 skipped 0 actors 2 objects 5 waiting 0\n"),
-    ("a million turns", COUNTS, b"1*900000 0*100000", COUNTED),
 ]
+
+LONG_RUNS = [("a million turns", COUNTS, b"1*900000 0*100000", COUNTED)]
 
 NUMBER = b"""\
 actor A
@@ -134,6 +135,7 @@ TOO_LONG = cut("a run ends at a text that is too long", RUN, DOUBLES, b"1*9 0 1*
 
 ROWS = [
     *answers("a run writes its text", RUN, RUNS),
+    *long(answers("a run writes its text", RUN, LONG_RUNS)),
     *refusals("a run is refused", RUN, REFUSED),
     TOO_LONG,
 ]

@@ -65,10 +65,11 @@ class Step:
 
 @dataclasses.dataclass(frozen=True)
 class Row:
-    """A name that says what is tested, and the steps, in order."""
+    """A name that says what is tested, and the steps, in order. Of a long row a build without proofs takes a minute."""
 
     name: str
     steps: tuple[Step, ...]
+    is_long: bool = False
 
 
 def shown(text):

@@ -3,6 +3,8 @@
 A table has a title, and each of its rows a text of its own, which together are the row's name. In a table of several files the
 source is `a.pony`, and the other text is in `a.der` and in `a.sched`."""
 
+import dataclasses
+
 from steps import ANY, Form, Row, Step, shown
 
 CHECK = ("check", "a.pony")
@@ -66,6 +68,11 @@ def built(title, rows):
 def answers(title, words, rows):
     """A command, and for each name a source, the other text, and what is on out."""
     return [Row(named(title, name), (answered(words, source, other, out),)) for name, source, other, out in rows]
+
+
+def long(rows):
+    """These rows, each as a long one."""
+    return [dataclasses.replace(row, is_long=True) for row in rows]
 
 
 def refusals(title, words, rows):
