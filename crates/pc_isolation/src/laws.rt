@@ -1,7 +1,6 @@
 //! What is proved of waiting messages. The calls do nothing, and their contracts are the laws.
 ghost use Rattle.pc_isolation.specs.Examples as example;
 ghost use Rattle.pc_isolation.specs.ValidLaws as law;
-ghost use Rattle.pc_isolation.specs.ForGood as good;
 
 use pc_semantics::only_moves_change;
 
@@ -31,7 +30,7 @@ pub fn waiting_is_seen()
 
 /// What a place declared `val` leads to is never written again, over every schedule, and its fields hold what they held.
 pub fn valid_keeps_val()
-    ensures { good.ValidKeepsVal }
+    ensures { law.ValidKeepsVal }
 {
     only_moves_change();
 }

@@ -4,7 +4,7 @@ use Rattle.std.specs.Io.KnownBytes.{Appends}
 use Rattle.pc_base.specs.Lists.{Text}
 use Rattle.pc_args.specs.Asked.{Asked, command_of}
 use Rattle.pc_io.specs.Sink.{Change}
-use Rattle.pc_isolation.specs.{ValidLaws.{ValidIsIsolated, ValidIsPassedWhole}, ForGood.ValidKeepsVal}
+use Rattle.pc_isolation.specs.ValidLaws.{ValidIsIsolated, ValidIsPassedWhole, ValidKeepsVal}
 use Rattle.pc_regions.specs.Laws.{ValidIsSafe}
 use Rattle.pc_refusals.specs.{Verdict.{Answer, Files, named, Verdict, IsAccepting}, Verdict.Answer.{given as answer_given, file as answer_file, out_failed, err_failed, file_err_failed, no_memory}}
 use Rattle.pc_refusals.proofs.Statuses.{IsOwn}

@@ -4,7 +4,7 @@ use Rattle.pc_ann.specs.declared.annotation.Ann.{Ann}
 use Rattle.pc_core.specs.CoreData.{CoreData}
 use Rattle.pc_valid.specs.Valid.{Valid}
 use Rattle.pc_isolation.specs.ForGood.{ValForGood}
-use Rattle.pc_guarantees.specs.{Laws.{AlwaysOwned, AlwaysProgresses}, Reads.ReadsImmutable}
+use Rattle.pc_guarantees.specs.{Owned.AlwaysOwned, Progress.AlwaysProgresses, Reads.ReadsImmutable}
 use Rattle.pc_swap.specs.Confluence.{Decided}
 use Rattle.pc_top.specs.CoreOf.{CoreOf}
 
