@@ -10,6 +10,7 @@ CRATES = pages.TOP / "crates"
 # What the headline and the whole contract rest on, as they are named in docs/theorem.md.
 HEADLINE = [("pc_top", "CoreOf"), ("pc_valid", "Valid"), ("pc_semantics", "Safety")]
 ISOLATION = [("pc_top", "IsolatedCore")]
+GUARANTEES = [("pc_top", "Guarantees")]
 CONTRACT = [
     *(("pc_top", name) for name in ("Asked", "OnOut", "Referee")),
     ("pc_refusals", "Verdict"),
@@ -89,6 +90,11 @@ def headline():
 def isolated():
     """What the headline and the clause on isolation rest on."""
     return headline() | imports(ISOLATION)
+
+
+def guaranteed():
+    """What these and the clauses on which compilers build rest on."""
+    return isolated() | imports(GUARANTEES)
 
 
 def contract(without=()):

@@ -11,8 +11,9 @@ import pages
 # What says only how the parts inside a command end. No clause of the whole call rests on it.
 INNER = "Inner/"
 
-# How the parts of what is to be read begin: for the headline, for isolation, and for the rest of the contract.
-PARTS = ("**1. ", "**Isolation in depth** ", "**4. ")
+# How the parts of what is to be read begin: for the headline, for isolation, for what compilers may rely on, and for the rest
+# of the contract.
+PARTS = ("**1. ", "**Isolation in depth** ", "**What a compiler may rely on** ", "**4. ")
 
 COMMAND_OF_HELP = re.compile(r"  ((?:[a-z]+)(?: [A-Z]+)+)(?:  .*|)$")
 STATUS_OF_HELP = re.compile(r" *(\d+)  (.*?)(?:  +.*)?$")
@@ -91,10 +92,11 @@ def listed_in(page, rows, results):
 def look_at_lines(found, results):
     """Compares the lines that are to be read with the files, and the files with what is imported."""
     page = next(it for it in found if it.name == "docs/theorem.md")
-    wanted, isolated, whole = lines.headline(), lines.isolated(), lines.contract()
+    wanted, isolated, guaranteed, whole = lines.headline(), lines.isolated(), lines.guaranteed(), lines.contract()
     begins = [next(at for at, line in enumerate(page.lines, 1) if line.startswith(it)) for it in PARTS]
     rows = pages.table(page, "Read", "Lines")
-    for files, begin, end in zip((wanted, isolated - wanted, whole - isolated), begins, [*begins[1:], len(page.lines)]):
+    parts = (wanted, isolated - wanted, guaranteed - isolated, whole - guaranteed)
+    for files, begin, end in zip(parts, begins, [*begins[1:], len(page.lines)]):
         listed = listed_in(page, [row for row in rows if begin < row.line < end], results)
         results.check(listed == files, f"{page.name}:{begin}: what is imported", f"{sorted(listed ^ files)}")
     inner = [it for it in whole if it[1].startswith(INNER)]
@@ -102,11 +104,12 @@ def look_at_lines(found, results):
     later = [it for it in lines.LATER if it not in whole]
     results.check(not later, f"{page.name}: the later commands are part of the contract", later)
     earlier = lines.contract(without=lines.LATER)
+    before = lines.contract(without=[*lines.LATER, *lines.GUARANTEES])
     readme = next(it for it in found if it.name == "README.md")
-    counted = [lines.length(it) for it in (wanted, isolated, whole, earlier)]
-    counted += [lines.length_of_text(it) for it in (wanted, earlier, whole)]
-    counted += [lines.filled(it) for it in (wanted, earlier)]
-    for where, counts in ((page, counted), (readme, [lines.length_of_text(it) for it in (isolated, whole)])):
+    counted = [lines.length(it) for it in (wanted, isolated, guaranteed, whole, earlier, before)]
+    counted += [lines.length_of_text(it) for it in (wanted, guaranteed, earlier, whole)]
+    counted += [lines.filled(it) for it in (wanted, before)]
+    for where, counts in ((page, counted), (readme, [lines.length_of_text(it) for it in (guaranteed, whole)])):
         text = re.sub(r"\s+", " ", where.text())
         for one in map(about, counts):
             is_said = one in text or one.removesuffix(" lines") in text
@@ -118,6 +121,7 @@ def look_at_text(results):
     wanted = {
         "headline": lines.headline(),
         "isolation": lines.isolated(),
+        "guarantees": lines.guaranteed(),
         "contract": lines.contract(),
         f"contract --without {' '.join(lines.LATER_COMMANDS)}": lines.contract(without=lines.LATER),
     }
