@@ -9,6 +9,7 @@
 ghost use Rattle.std.specs.Prelude.{◌≡◌, ◌≢◌, ◌↔◌};
 ghost use Rattle.pc_refusals.specs.Verdict.{IsAccepting};
 ghost use Rattle.pc_top.specs.CoreOf.{HasSafeCore, IsDerivable, IsUnderivable};
+ghost use Rattle.pc_top.specs.Guarantees.{HasDecidedCore, HasFrozenCore, HasOwnedCore, HasProgressingCore};
 ghost use Rattle.pc_top.specs.IsolatedCore.{HasIsolatedCore};
 ghost use Rattle.pc_top.specs.Exact.{IsDerivationOf};
 ghost use Rattle.pc_lib_buffers.specs.Laying.{buffer};
@@ -32,6 +33,10 @@ pub extern "C" fn rcap_check(
     ensures exact { result ≢ 11 → ((result ≡ 0) ↔ IsDerivable source.now) × ((result ≡ 1) ↔ IsUnderivable source.now) }
     ensures safe { IsAccepting result → HasSafeCore source.now }
     ensures isolated { IsAccepting result → HasIsolatedCore source.now }
+    ensures frozen { IsAccepting result → HasFrozenCore source.now }
+    ensures owned { IsAccepting result → HasOwnedCore source.now }
+    ensures progresses { IsAccepting result → HasProgressingCore source.now }
+    ensures decided { IsAccepting result → HasDecidedCore source.now }
 {
     pc_lib_call::check(alloc, source, out, err, answer)
 }
@@ -51,6 +56,10 @@ pub extern "C" fn rcap_judge(
     ensures accepted { IsAccepting result → IsDerivable source.now }
     ensures safe { IsAccepting result → HasSafeCore source.now }
     ensures isolated { IsAccepting result → HasIsolatedCore source.now }
+    ensures frozen { IsAccepting result → HasFrozenCore source.now }
+    ensures owned { IsAccepting result → HasOwnedCore source.now }
+    ensures progresses { IsAccepting result → HasProgressingCore source.now }
+    ensures decided { IsAccepting result → HasDecidedCore source.now }
 {
     pc_lib_call::judge(alloc, source, derivation, out, err, answer)
 }
@@ -71,6 +80,10 @@ pub extern "C" fn rcap_upgrade(
     ensures accepted { IsAccepting result → IsDerivable source.now }
     ensures safe { IsAccepting result → HasSafeCore source.now }
     ensures isolated { IsAccepting result → HasIsolatedCore source.now }
+    ensures frozen { IsAccepting result → HasFrozenCore source.now }
+    ensures owned { IsAccepting result → HasOwnedCore source.now }
+    ensures progresses { IsAccepting result → HasProgressingCore source.now }
+    ensures decided { IsAccepting result → HasDecidedCore source.now }
 {
     pc_lib_call::upgrade(alloc, source, derivation, out, err, answer)
 }
@@ -90,6 +103,10 @@ pub extern "C" fn rcap_run(
     ensures accepted { IsAccepting result → IsDerivable source.now }
     ensures safe { IsAccepting result → HasSafeCore source.now }
     ensures isolated { IsAccepting result → HasIsolatedCore source.now }
+    ensures frozen { IsAccepting result → HasFrozenCore source.now }
+    ensures owned { IsAccepting result → HasOwnedCore source.now }
+    ensures progresses { IsAccepting result → HasProgressingCore source.now }
+    ensures decided { IsAccepting result → HasDecidedCore source.now }
 {
     pc_lib_call::run(alloc, source, schedule, out, err, answer)
 }
@@ -123,6 +140,10 @@ pub extern "C" fn rcap_trace(
     ensures accepted { IsAccepting result → IsDerivable source.now }
     ensures safe { IsAccepting result → HasSafeCore source.now }
     ensures isolated { IsAccepting result → HasIsolatedCore source.now }
+    ensures frozen { IsAccepting result → HasFrozenCore source.now }
+    ensures owned { IsAccepting result → HasOwnedCore source.now }
+    ensures progresses { IsAccepting result → HasProgressingCore source.now }
+    ensures decided { IsAccepting result → HasDecidedCore source.now }
 {
     pc_lib_call::trace(alloc, source, schedule, out, err, answer)
 }
@@ -144,6 +165,10 @@ pub extern "C" fn rcap_swap(
     ensures accepted { IsAccepting result → IsDerivable source.now }
     ensures safe { IsAccepting result → HasSafeCore source.now }
     ensures isolated { IsAccepting result → HasIsolatedCore source.now }
+    ensures frozen { IsAccepting result → HasFrozenCore source.now }
+    ensures owned { IsAccepting result → HasOwnedCore source.now }
+    ensures progresses { IsAccepting result → HasProgressingCore source.now }
+    ensures decided { IsAccepting result → HasDecidedCore source.now }
 {
     pc_lib_call::swap(alloc, source, schedule, place, out, err, answer)
 }
@@ -162,6 +187,10 @@ pub extern "C" fn rcap_sends(
     ensures accepted { IsAccepting result → IsDerivable source.now }
     ensures safe { IsAccepting result → HasSafeCore source.now }
     ensures isolated { IsAccepting result → HasIsolatedCore source.now }
+    ensures frozen { IsAccepting result → HasFrozenCore source.now }
+    ensures owned { IsAccepting result → HasOwnedCore source.now }
+    ensures progresses { IsAccepting result → HasProgressingCore source.now }
+    ensures decided { IsAccepting result → HasDecidedCore source.now }
 {
     pc_lib_call::sends(alloc, source, out, err, answer)
 }
@@ -181,6 +210,10 @@ pub extern "C" fn rcap_schedule(
     ensures accepted { IsAccepting result → IsDerivable source.now }
     ensures safe { IsAccepting result → HasSafeCore source.now }
     ensures isolated { IsAccepting result → HasIsolatedCore source.now }
+    ensures frozen { IsAccepting result → HasFrozenCore source.now }
+    ensures owned { IsAccepting result → HasOwnedCore source.now }
+    ensures progresses { IsAccepting result → HasProgressingCore source.now }
+    ensures decided { IsAccepting result → HasDecidedCore source.now }
 {
     pc_lib_call::schedule(alloc, source, seed, out, err, answer)
 }
@@ -200,6 +233,10 @@ pub extern "C" fn rcap_play(
     ensures accepted { IsAccepting result → IsDerivable source.now }
     ensures safe { IsAccepting result → HasSafeCore source.now }
     ensures isolated { IsAccepting result → HasIsolatedCore source.now }
+    ensures frozen { IsAccepting result → HasFrozenCore source.now }
+    ensures owned { IsAccepting result → HasOwnedCore source.now }
+    ensures progresses { IsAccepting result → HasProgressingCore source.now }
+    ensures decided { IsAccepting result → HasDecidedCore source.now }
 {
     pc_lib_call::play(alloc, source, seed, out, err, answer)
 }
@@ -220,6 +257,10 @@ pub extern "C" fn rcap_outcomes(
     ensures accepted { IsAccepting result → IsDerivable source.now }
     ensures safe { IsAccepting result → HasSafeCore source.now }
     ensures isolated { IsAccepting result → HasIsolatedCore source.now }
+    ensures frozen { IsAccepting result → HasFrozenCore source.now }
+    ensures owned { IsAccepting result → HasOwnedCore source.now }
+    ensures progresses { IsAccepting result → HasProgressingCore source.now }
+    ensures decided { IsAccepting result → HasDecidedCore source.now }
 {
     pc_lib_call::outcomes(alloc, source, count, out, err, answer)
 }
@@ -253,6 +294,10 @@ pub extern "C" fn rcap_events(
     ensures accepted { IsAccepting result → IsDerivable source.now }
     ensures safe { IsAccepting result → HasSafeCore source.now }
     ensures isolated { IsAccepting result → HasIsolatedCore source.now }
+    ensures frozen { IsAccepting result → HasFrozenCore source.now }
+    ensures owned { IsAccepting result → HasOwnedCore source.now }
+    ensures progresses { IsAccepting result → HasProgressingCore source.now }
+    ensures decided { IsAccepting result → HasDecidedCore source.now }
 {
     pc_lib_call::events(alloc, source, schedule, out, err, answer)
 }

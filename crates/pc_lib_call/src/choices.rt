@@ -2,6 +2,7 @@
 ghost use Rattle.std.specs.Prelude.{◌≡◌, ◌≢◌, ◌↔◌};
 ghost use Rattle.pc_refusals.specs.Verdict.{IsAccepting};
 ghost use Rattle.pc_top.specs.CoreOf.{HasSafeCore, IsDerivable, IsUnderivable};
+ghost use Rattle.pc_top.specs.Guarantees.{HasDecidedCore, HasFrozenCore, HasOwnedCore, HasProgressingCore};
 ghost use Rattle.pc_top.specs.IsolatedCore.{HasIsolatedCore};
 ghost use Rattle.pc_lib_buffers.specs.Laying.{buffer};
 ghost use Rattle.pc_lib_buffers.specs.Points.{PointsIntoSource};
@@ -12,7 +13,7 @@ use crate::asking::ask;
 use itoa::Buffer;
 use pc_args::written_forms_are_taken;
 use pc_lib_buffers::{Answer, Beside};
-use pc_top::statuses_are_exact;
+use pc_top::{derivable_sources_are_reliable, statuses_are_exact};
 use std::alloc::Global;
 
 /// Checks the source, and writes the schedule that a seed chooses for it.
@@ -29,8 +30,13 @@ pub fn schedule(
     ensures accepted { IsAccepting result → IsDerivable source.now }
     ensures safe { IsAccepting result → HasSafeCore source.now }
     ensures isolated { IsAccepting result → HasIsolatedCore source.now }
+    ensures frozen { IsAccepting result → HasFrozenCore source.now }
+    ensures owned { IsAccepting result → HasOwnedCore source.now }
+    ensures progresses { IsAccepting result → HasProgressingCore source.now }
+    ensures decided { IsAccepting result → HasDecidedCore source.now }
 {
     written_forms_are_taken();
+    derivable_sources_are_reliable();
     statuses_are_exact();
     let mut digits = Buffer::new();
     let seed = digits.format(seed);
@@ -59,8 +65,13 @@ pub fn play(
     ensures accepted { IsAccepting result → IsDerivable source.now }
     ensures safe { IsAccepting result → HasSafeCore source.now }
     ensures isolated { IsAccepting result → HasIsolatedCore source.now }
+    ensures frozen { IsAccepting result → HasFrozenCore source.now }
+    ensures owned { IsAccepting result → HasOwnedCore source.now }
+    ensures progresses { IsAccepting result → HasProgressingCore source.now }
+    ensures decided { IsAccepting result → HasDecidedCore source.now }
 {
     written_forms_are_taken();
+    derivable_sources_are_reliable();
     statuses_are_exact();
     let mut digits = Buffer::new();
     let seed = digits.format(seed);
@@ -90,8 +101,13 @@ pub fn outcomes(
     ensures accepted { IsAccepting result → IsDerivable source.now }
     ensures safe { IsAccepting result → HasSafeCore source.now }
     ensures isolated { IsAccepting result → HasIsolatedCore source.now }
+    ensures frozen { IsAccepting result → HasFrozenCore source.now }
+    ensures owned { IsAccepting result → HasOwnedCore source.now }
+    ensures progresses { IsAccepting result → HasProgressingCore source.now }
+    ensures decided { IsAccepting result → HasDecidedCore source.now }
 {
     written_forms_are_taken();
+    derivable_sources_are_reliable();
     statuses_are_exact();
     let mut digits = Buffer::new();
     let count = digits.format(count);

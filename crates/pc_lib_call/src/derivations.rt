@@ -2,6 +2,7 @@
 ghost use Rattle.std.specs.Prelude.{◌≡◌, ◌≢◌, ◌↔◌};
 ghost use Rattle.pc_refusals.specs.Verdict.{IsAccepting};
 ghost use Rattle.pc_top.specs.CoreOf.{HasSafeCore, IsDerivable};
+ghost use Rattle.pc_top.specs.Guarantees.{HasDecidedCore, HasFrozenCore, HasOwnedCore, HasProgressingCore};
 ghost use Rattle.pc_top.specs.IsolatedCore.{HasIsolatedCore};
 ghost use Rattle.pc_top.specs.Exact.{IsDerivationOf};
 ghost use Rattle.pc_lib_buffers.specs.Laying.{buffer};
@@ -12,7 +13,7 @@ ghost use Rattle.pc_lib_call.specs.Verdicts.{IsJudged, IsUpgraded};
 use crate::asking::ask;
 use pc_args::written_forms_are_taken;
 use pc_lib_buffers::{Answer, Beside};
-use pc_top::judged_statuses_are_exact;
+use pc_top::{derivable_sources_are_reliable, judged_statuses_are_exact};
 use std::alloc::Global;
 
 /// Reports whether a text is a derivation of the source.
@@ -29,8 +30,13 @@ pub fn judge(
     ensures accepted { IsAccepting result → IsDerivable source.now }
     ensures safe { IsAccepting result → HasSafeCore source.now }
     ensures isolated { IsAccepting result → HasIsolatedCore source.now }
+    ensures frozen { IsAccepting result → HasFrozenCore source.now }
+    ensures owned { IsAccepting result → HasOwnedCore source.now }
+    ensures progresses { IsAccepting result → HasProgressingCore source.now }
+    ensures decided { IsAccepting result → HasDecidedCore source.now }
 {
     written_forms_are_taken();
+    derivable_sources_are_reliable();
     judged_statuses_are_exact();
     ask(
         alloc,
@@ -58,8 +64,13 @@ pub fn upgrade(
     ensures accepted { IsAccepting result → IsDerivable source.now }
     ensures safe { IsAccepting result → HasSafeCore source.now }
     ensures isolated { IsAccepting result → HasIsolatedCore source.now }
+    ensures frozen { IsAccepting result → HasFrozenCore source.now }
+    ensures owned { IsAccepting result → HasOwnedCore source.now }
+    ensures progresses { IsAccepting result → HasProgressingCore source.now }
+    ensures decided { IsAccepting result → HasDecidedCore source.now }
 {
     written_forms_are_taken();
+    derivable_sources_are_reliable();
     judged_statuses_are_exact();
     ask(
         alloc,

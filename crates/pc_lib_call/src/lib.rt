@@ -7,7 +7,9 @@
 //! Proved: status, texts and place are those of the command's verdict on exactly these bytes, or memory ran out: then
 //! the status is 11, and the buffers are unchanged. So 9 and 10 never occur. If it is not 11, the status of `check` is
 //! 0 iff the source has a core with a derivation, and the status of a command that looks for a derivation is 1 iff the
-//! source has a core without one. What is accepted is safe, and its waiting messages are isolated in depth.
+//! source has a core without one. What is accepted is safe, its waiting messages are isolated in depth, and a compiler
+//! may rely on it: what is `val` is immutable for good, objects have single owners, no actor is stuck, and the order of
+//! arrivals decides where a schedule leads.
 //!
 //! How the code is to be read is in `CONTRIBUTING.md` (How to read the code).
 #![tactic(auto)]

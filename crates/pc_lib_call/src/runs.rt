@@ -2,6 +2,7 @@
 ghost use Rattle.std.specs.Prelude.{◌≡◌, ◌≢◌, ◌↔◌};
 ghost use Rattle.pc_refusals.specs.Verdict.{IsAccepting};
 ghost use Rattle.pc_top.specs.CoreOf.{HasSafeCore, IsDerivable, IsUnderivable};
+ghost use Rattle.pc_top.specs.Guarantees.{HasDecidedCore, HasFrozenCore, HasOwnedCore, HasProgressingCore};
 ghost use Rattle.pc_top.specs.IsolatedCore.{HasIsolatedCore};
 ghost use Rattle.pc_lib_buffers.specs.Laying.{buffer};
 ghost use Rattle.pc_lib_buffers.specs.Points.{PointsIntoBoth};
@@ -12,7 +13,7 @@ use crate::asking::ask;
 use itoa::Buffer;
 use pc_args::written_forms_are_taken;
 use pc_lib_buffers::{Answer, Beside};
-use pc_top::statuses_are_exact;
+use pc_top::{derivable_sources_are_reliable, statuses_are_exact};
 use std::alloc::Global;
 
 /// Checks the source, and writes what it prints over the schedule.
@@ -29,8 +30,13 @@ pub fn run(
     ensures accepted { IsAccepting result → IsDerivable source.now }
     ensures safe { IsAccepting result → HasSafeCore source.now }
     ensures isolated { IsAccepting result → HasIsolatedCore source.now }
+    ensures frozen { IsAccepting result → HasFrozenCore source.now }
+    ensures owned { IsAccepting result → HasOwnedCore source.now }
+    ensures progresses { IsAccepting result → HasProgressingCore source.now }
+    ensures decided { IsAccepting result → HasDecidedCore source.now }
 {
     written_forms_are_taken();
+    derivable_sources_are_reliable();
     statuses_are_exact();
     ask(
         alloc,
@@ -57,8 +63,13 @@ pub fn trace(
     ensures accepted { IsAccepting result → IsDerivable source.now }
     ensures safe { IsAccepting result → HasSafeCore source.now }
     ensures isolated { IsAccepting result → HasIsolatedCore source.now }
+    ensures frozen { IsAccepting result → HasFrozenCore source.now }
+    ensures owned { IsAccepting result → HasOwnedCore source.now }
+    ensures progresses { IsAccepting result → HasProgressingCore source.now }
+    ensures decided { IsAccepting result → HasDecidedCore source.now }
 {
     written_forms_are_taken();
+    derivable_sources_are_reliable();
     statuses_are_exact();
     ask(
         alloc,
@@ -85,8 +96,13 @@ pub fn events(
     ensures accepted { IsAccepting result → IsDerivable source.now }
     ensures safe { IsAccepting result → HasSafeCore source.now }
     ensures isolated { IsAccepting result → HasIsolatedCore source.now }
+    ensures frozen { IsAccepting result → HasFrozenCore source.now }
+    ensures owned { IsAccepting result → HasOwnedCore source.now }
+    ensures progresses { IsAccepting result → HasProgressingCore source.now }
+    ensures decided { IsAccepting result → HasDecidedCore source.now }
 {
     written_forms_are_taken();
+    derivable_sources_are_reliable();
     statuses_are_exact();
     ask(
         alloc,
@@ -115,8 +131,13 @@ pub fn swap(
     ensures accepted { IsAccepting result → IsDerivable source.now }
     ensures safe { IsAccepting result → HasSafeCore source.now }
     ensures isolated { IsAccepting result → HasIsolatedCore source.now }
+    ensures frozen { IsAccepting result → HasFrozenCore source.now }
+    ensures owned { IsAccepting result → HasOwnedCore source.now }
+    ensures progresses { IsAccepting result → HasProgressingCore source.now }
+    ensures decided { IsAccepting result → HasDecidedCore source.now }
 {
     written_forms_are_taken();
+    derivable_sources_are_reliable();
     statuses_are_exact();
     let mut digits = Buffer::new();
     let place = digits.format(place);

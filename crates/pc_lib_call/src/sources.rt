@@ -2,6 +2,7 @@
 ghost use Rattle.std.specs.Prelude.{◌≡◌, ◌≢◌, ◌↔◌};
 ghost use Rattle.pc_refusals.specs.Verdict.{IsAccepting};
 ghost use Rattle.pc_top.specs.CoreOf.{HasSafeCore, IsDerivable, IsUnderivable};
+ghost use Rattle.pc_top.specs.Guarantees.{HasDecidedCore, HasFrozenCore, HasOwnedCore, HasProgressingCore};
 ghost use Rattle.pc_top.specs.IsolatedCore.{HasIsolatedCore};
 ghost use Rattle.pc_lib_buffers.specs.Laying.{buffer};
 ghost use Rattle.pc_lib_buffers.specs.Points.{PointsIntoSource};
@@ -11,7 +12,7 @@ ghost use Rattle.pc_lib_call.specs.Verdicts.{IsChecked, IsExplained, IsPlacesOf,
 use crate::asking::ask;
 use pc_args::written_forms_are_taken;
 use pc_lib_buffers::{Answer, Beside};
-use pc_top::statuses_are_exact;
+use pc_top::{derivable_sources_are_reliable, statuses_are_exact};
 use std::alloc::Global;
 
 /// Looks for a derivation of the source, and writes it.
@@ -26,8 +27,13 @@ pub fn check(
     ensures exact { result ≢ 11 → ((result ≡ 0) ↔ IsDerivable source.now) × ((result ≡ 1) ↔ IsUnderivable source.now) }
     ensures safe { IsAccepting result → HasSafeCore source.now }
     ensures isolated { IsAccepting result → HasIsolatedCore source.now }
+    ensures frozen { IsAccepting result → HasFrozenCore source.now }
+    ensures owned { IsAccepting result → HasOwnedCore source.now }
+    ensures progresses { IsAccepting result → HasProgressingCore source.now }
+    ensures decided { IsAccepting result → HasDecidedCore source.now }
 {
     written_forms_are_taken();
+    derivable_sources_are_reliable();
     statuses_are_exact();
     ask(
         alloc,
@@ -91,8 +97,13 @@ pub fn sends(
     ensures accepted { IsAccepting result → IsDerivable source.now }
     ensures safe { IsAccepting result → HasSafeCore source.now }
     ensures isolated { IsAccepting result → HasIsolatedCore source.now }
+    ensures frozen { IsAccepting result → HasFrozenCore source.now }
+    ensures owned { IsAccepting result → HasOwnedCore source.now }
+    ensures progresses { IsAccepting result → HasProgressingCore source.now }
+    ensures decided { IsAccepting result → HasDecidedCore source.now }
 {
     written_forms_are_taken();
+    derivable_sources_are_reliable();
     statuses_are_exact();
     ask(
         alloc,

@@ -39,3 +39,15 @@ returns-clause-isolated c accepting =
     let is : c.format-count.result.now ≡ decimal c.args.count = c.format-count.ensures.text in
     of_source HasIsolatedCore (outcomes (codes "source") c.format-count.result.now) _ c.args.source.now Nothing
     (outcomes_asks c.written_forms_are_taken.ensures c.args.source.now c.format-count.result.now (plain c.args.count c.format-count.result.now is fits)) refl (c.ask.ensures.isolated accepting)
+
+pub returns-clause-frozen : goal.returns-clause-frozen
+returns-clause-frozen c accepting = c.derivable_sources_are_reliable.ensures.frozen c.args.source.now (returns-clause-accepted c accepting)
+
+pub returns-clause-owned : goal.returns-clause-owned
+returns-clause-owned c accepting = c.derivable_sources_are_reliable.ensures.owned c.args.source.now (returns-clause-accepted c accepting)
+
+pub returns-clause-progresses : goal.returns-clause-progresses
+returns-clause-progresses c accepting = c.derivable_sources_are_reliable.ensures.progresses c.args.source.now (returns-clause-accepted c accepting)
+
+pub returns-clause-decided : goal.returns-clause-decided
+returns-clause-decided c accepting = c.derivable_sources_are_reliable.ensures.decided c.args.source.now (returns-clause-accepted c accepting)

@@ -39,3 +39,15 @@ returns-clause-isolated c accepting =
     let is : c.format-seed.result.now ≡ decimal c.args.seed = c.format-seed.ensures.text in
     of_source HasIsolatedCore (schedule_of (codes "source") c.format-seed.result.now) _ c.args.source.now Nothing
     (schedule_asks c.written_forms_are_taken.ensures c.args.source.now c.format-seed.result.now (plain c.args.seed c.format-seed.result.now is fits)) refl (c.ask.ensures.isolated accepting)
+
+pub returns-clause-frozen : goal.returns-clause-frozen
+returns-clause-frozen c accepting = c.derivable_sources_are_reliable.ensures.frozen c.args.source.now (returns-clause-accepted c accepting)
+
+pub returns-clause-owned : goal.returns-clause-owned
+returns-clause-owned c accepting = c.derivable_sources_are_reliable.ensures.owned c.args.source.now (returns-clause-accepted c accepting)
+
+pub returns-clause-progresses : goal.returns-clause-progresses
+returns-clause-progresses c accepting = c.derivable_sources_are_reliable.ensures.progresses c.args.source.now (returns-clause-accepted c accepting)
+
+pub returns-clause-decided : goal.returns-clause-decided
+returns-clause-decided c accepting = c.derivable_sources_are_reliable.ensures.decided c.args.source.now (returns-clause-accepted c accepting)

@@ -20,3 +20,15 @@ returns-clause-safe c accepting = of_source HasSafeCore (events (codes "source")
 
 pub returns-clause-isolated : goal.returns-clause-isolated
 returns-clause-isolated c accepting = of_source HasIsolatedCore (events (codes "source") (codes "schedule")) _ c.args.source.now (Schedule c.args.schedule) (events_asks c.written_forms_are_taken.ensures c.args.source.now) refl (c.ask.ensures.isolated accepting)
+
+pub returns-clause-frozen : goal.returns-clause-frozen
+returns-clause-frozen c accepting = c.derivable_sources_are_reliable.ensures.frozen c.args.source.now (returns-clause-accepted c accepting)
+
+pub returns-clause-owned : goal.returns-clause-owned
+returns-clause-owned c accepting = c.derivable_sources_are_reliable.ensures.owned c.args.source.now (returns-clause-accepted c accepting)
+
+pub returns-clause-progresses : goal.returns-clause-progresses
+returns-clause-progresses c accepting = c.derivable_sources_are_reliable.ensures.progresses c.args.source.now (returns-clause-accepted c accepting)
+
+pub returns-clause-decided : goal.returns-clause-decided
+returns-clause-decided c accepting = c.derivable_sources_are_reliable.ensures.decided c.args.source.now (returns-clause-accepted c accepting)

@@ -36,3 +36,15 @@ returns-clause-isolated c accepting =
     let fits : c.args.place < 2 ^ 64 = omega (arith, c.ranges.place.fits) in
     of_source HasIsolatedCore (swap (codes "source") (codes "schedule") c.format-place.result.now) _ c.args.source.now (Schedule c.args.schedule)
     (swap_asks c.written_forms_are_taken.ensures c.args.source.now c.format-place.result.now (plain c.args.place c.format-place.result.now c.format-place.ensures.text fits)) refl (c.ask.ensures.isolated accepting)
+
+pub returns-clause-frozen : goal.returns-clause-frozen
+returns-clause-frozen c accepting = c.derivable_sources_are_reliable.ensures.frozen c.args.source.now (returns-clause-accepted c accepting)
+
+pub returns-clause-owned : goal.returns-clause-owned
+returns-clause-owned c accepting = c.derivable_sources_are_reliable.ensures.owned c.args.source.now (returns-clause-accepted c accepting)
+
+pub returns-clause-progresses : goal.returns-clause-progresses
+returns-clause-progresses c accepting = c.derivable_sources_are_reliable.ensures.progresses c.args.source.now (returns-clause-accepted c accepting)
+
+pub returns-clause-decided : goal.returns-clause-decided
+returns-clause-decided c accepting = c.derivable_sources_are_reliable.ensures.decided c.args.source.now (returns-clause-accepted c accepting)
