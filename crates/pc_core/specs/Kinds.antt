@@ -1,6 +1,6 @@
 -- What a node of a kind does, as questions about its kind. A kind that has no row has no such part.
 use Rattle.std.specs.Prelude.{ℕ, Option, Some, None}
-use Rattle.pc_core.specs.declared.{kinds.{Operation.Operation, Connective.Connective}, nodes.NodeKind.NodeKind}
+use Rattle.pc_core.specs.{declared.kinds.Operation.Operation, declared.kinds.Connective.Connective, declared.nodes.NodeKind.NodeKind}
 use Rattle.pc_core.specs.declared.kinds.Connective.TheVariants as joins
 use Rattle.pc_core.specs.declared.kinds.Operation.TheVariants as applies
 use Rattle.pc_core.specs.declared.nodes.NodeKind.TheVariants as node
