@@ -1,6 +1,6 @@
 """`check` and `judge` on small bodies, on texts without tokens, and on derivations."""
 
-from programs import FIRST, ONE_OBJECT, OPEN
+from programs import FIRST, ONE_OBJECT, OPEN, SECOND
 from tables import CHECK, JUDGE, answers, endings, refusals
 from texts import changed
 
@@ -50,6 +50,9 @@ n seq - 3 0 3 0
 n body - 3 0 3 0
 """
 
+# The same in version 2.
+WRONG_NODE_SECOND = changed(SECOND, b"n new 6 iso^ 3 0 0 0\n", b"n new 6 ref 3 0 0 0\n")
+
 # FIRST with another type of the local.
 WRONG_SLOT = changed(FIRST, b"s 6 iso\n", b"s 6 val\n")
 
@@ -74,6 +77,10 @@ DERIVATIONS = [
     ("another type of a local", ONE_OBJECT, WRONG_SLOT, 6, b"a.der: slot 3\n"),
     ("no lines", ONE_OBJECT, b"rcap-derivation 1 0 0\n", 6, b"a.der: shape\n"),
     ("no last line end", ONE_OBJECT, UNENDED, 5, b"a.der:12: bad line\n"),
+    # A text that breaks off comes before a node that is wrong.
+    ("no last line end, and another type of an object", ONE_OBJECT, WRONG_NODE[:-1], 5, b"a.der:12: bad line\n"),
+    ("another type of an object, in version 2", ONE_OBJECT, WRONG_NODE_SECOND, 6, b"a.der: node 3\n"),
+    ("70000 more line ends", ONE_OBJECT, FIRST + b"\n" * 70_000, 5, b"a.der:13: bad line\n"),
     ("a number that begins with 0", ONE_OBJECT, ZEROS, 5, b"a.der:6: bad line\n"),
     ("one more line end", ONE_OBJECT, LONGER, 5, b"a.der:13: bad line\n"),
 ]

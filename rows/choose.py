@@ -1,8 +1,10 @@
 """`schedule`, `play` and `outcomes` on whole programs: lists of seeds that were worked out by hand from the definition of a turn,
 what is played, and each different outcome."""
 
+import re
+
 from programs import BANK, DOUBLES, HELLO, READERS, UNSENDABLE
-from steps import Row
+from steps import Form, Row
 from tables import USAGE, answered, between, cut, long, named, refusals, same_run, spoken
 
 PRINTS = b"actor Main\n  new create(env: Env) => env.out.print(\"\")\n"
@@ -41,12 +43,18 @@ SCHEDULED = [
     # Counts 63, 44, 60 and 60. The second turn draws place 1 of the readers, and the third place 1 of the stream and the
     # other.
     ("draws of places and counts", "1", READERS, b"1*43 3*29 2*29 0*2\n"),
+    # Each actor takes its six steps in a turn of its own, and makes the next one: 95,000 turns.
+    ("actors that make actors", "0", CHAIN, b" ".join(b"%d*6" % actor for actor in range(1, 95_001)) + b"\n"),
 ]
 
-LONG_SCHEDULED = [("a program without an end", "0", ENDLESS, b"1*1000000\n")]
+LONG_SCHEDULED = [
+    ("a program without an end", "0", ENDLESS, b"1*1000000\n"),
+    ("a program without an end, by draws", "7", ENDLESS, b"1*1000000\n"),
+]
 
 PLAYED = [
     ("a greeting", "0", HELLO, b"hi\nsteps 11 skipped 0 actors 2 objects 3 waiting 0\n"),
+    ("a greeting, by draws", "1", HELLO, b"hi\nsteps 11 skipped 0 actors 2 objects 3 waiting 0\n"),
     ("two readers", "1", READERS, b"5\n5\nsteps 103 skipped 0 actors 4 objects 6 waiting 0\n"),
 ]
 
@@ -64,13 +72,26 @@ TABLED = [
     ("a text that is too long", "1", DOUBLES, b"seed 0: 1 of 1, 157 steps (too long)\n  go\n"),
 ]
 
-LONG_TABLED = [("a play that is cut", "1", ENDLESS, b"seed 0: 1 of 1, 1000000 steps (cut)\n")]
+LONG_TABLED = [
+    ("a play that is cut", "1", ENDLESS, b"seed 0: 1 of 1, 1000000 steps (cut)\n"),
+    ("two plays that are cut", "2", ENDLESS, b"seed 0: 2 of 2, 1000000 steps (cut)\n"),
+]
+
+# The two entries of fifty plays, of which the first has the text of round robin.
+TWO_ENTRIES = re.compile(rb"seed 0: (\d+) of 50, \d+ steps\n  a\n  b\nseed [1-9]\d*: (\d+) of 50, \d+ steps\n  b\n  a\n")
+
+
+def are_two(came, before):
+    """Whether a text has these two entries, and their numbers of plays add up to all."""
+    found = TWO_ENTRIES.fullmatch(came)
+    return found is not None and int(found[1]) + int(found[2]) == 50
+
 
 # By round robin Main comes first, and then the actors in the order in which they were made. Other seeds have them in the opposite
 # order, which is the last entry of the table.
 BOTH = [
-    ("one play", "1", b" steps\n  a\n  b\n"),
-    ("fifty plays", "50", b" steps\n  b\n  a\n"),
+    ("one play", "1", between(b"seed 0: ", b" steps\n  a\n  b\n")),
+    ("fifty plays", "50", Form("two entries, of fifty plays together", are_two)),
 ]
 
 NO_NUMBERS = [
@@ -120,7 +141,7 @@ ROWS = [
     ),
     *chosen("a table has each outcome", "outcomes", TABLED),
     *long(chosen("a table has each outcome", "outcomes", LONG_TABLED)),
-    *chosen("a table shows both outcomes", "outcomes", [(name, count, TWO, between(b"seed 0: ", end)) for name, count, end in BOTH]),
+    *chosen("a table shows both outcomes", "outcomes", [(name, count, TWO, out) for name, count, out in BOTH]),
     *spoken("words without such numbers are refused", HELLO, NO_NUMBERS),
     *refusals("a source is refused (schedule)", SCHEDULE, REFUSED),
     *refusals("a source is refused (play)", PLAY, REFUSED),

@@ -104,6 +104,57 @@ node: the name `txt` in Main.create
 rule name: a bare name is a visible local or parameter (here `env`, `text`), a field of Main (none), or directly before arguments one of its methods (`create`)
 """
 
+# A local with the name of a parameter.
+TWICE = b"""\
+actor Main
+  new create(env: Env) =>
+    let env: U64 = 1
+"""
+
+TWICE_LINE = b"a.pony:3:9: name twice\n"
+
+TWICE_LINES = b"""\
+3 |     let env: U64 = 1
+  |         ^^^
+node: the name `env` in Main.create
+rule name: `env` is the name of the parameter at 2:14, which is visible here
+hint: give one of the two another name
+"""
+
+# Two traits, each of which names the other.
+CYCLE = b"""\
+trait A is B
+trait B is A
+actor Main
+  new create(env: Env) => None
+"""
+
+CYCLE_LINE = b"a.pony:1:7: trait in a cycle\n"
+
+CYCLE_LINES = b"""\
+1 | trait A is B
+  |       ^
+node: the trait A
+rule is: a chain of `is` leads from A back to A
+hint: take one `is` of the chain away
+"""
+
+# A Main that is no actor.
+CLASS = b"""\
+class Main
+  new create(env: Env) => None
+"""
+
+CLASS_LINE = b"a.pony:1:7: Main is of another form\n"
+
+CLASS_LINES = b"""\
+1 | class Main
+  |       ^^^^
+node: the name `Main`
+rule main: `Main` is an actor with a constructor `create` of exactly one parameter, of Env val
+hint: write `actor Main` with `new create(env: Env) => ..`
+"""
+
 # A source, the status and the line with which `check` refuses it, and the lines after that one in its explanation.
 EXPLAINED = [
     ("a second name of an iso", SECOND_NAME, 1, SECOND_NAME_LINE, SECOND_NAME_LINES),
@@ -111,6 +162,14 @@ EXPLAINED = [
     ("a field that is not set", UNSET, 1, UNSET_LINE, UNSET_LINES),
     ("no Main", NO_MAIN, 4, NO_MAIN_LINE, NO_MAIN_LINES),
     ("an unknown name in a body", UNKNOWN, 4, UNKNOWN_LINE, UNKNOWN_LINES),
+    ("a local with the name of a parameter", TWICE, 4, TWICE_LINE, TWICE_LINES),
+    ("traits that name each other", CYCLE, 4, CYCLE_LINE, CYCLE_LINES),
+    ("a Main that is a class", CLASS, 4, CLASS_LINE, CLASS_LINES),
+]
+
+ACCEPTED = [
+    ("a program without a fault", FINE, b"", b"accepted\n"),
+    ("a Main that does nothing", IDLE, b"", b"accepted\n"),
 ]
 
 REFUSED = [
@@ -138,7 +197,7 @@ def explained(name, source, status, line, lines):
 
 ROWS = [
     *(explained(*row) for row in EXPLAINED),
-    *answers("other sources are accepted", EXPLAIN, [("a program without a fault", FINE, b"", b"accepted\n")]),
+    *answers("other sources are accepted", EXPLAIN, ACCEPTED),
     *refusals("other sources are refused", EXPLAIN, REFUSED),
     *(
         Row(named("a limit is passed", name), (refused(CHECK, source, b"", 8, line), refused(EXPLAIN, source, b"", 8, line)))

@@ -63,6 +63,53 @@ actor Main
     A().beat()
 """
 
+# A call on an interface: it may reach each actor that conforms to it, even one that is never made.
+INTERFACE = b"""\
+interface Sink
+  be take(n: U64)
+actor Counter
+  be take(n: U64) => None
+  be spare() => None
+actor Other
+  be take(n: U64) => None
+actor Apart
+  be take(n: Bool) => None
+actor Main
+  new create(env: Env) =>
+    let sink: Sink tag = Counter
+    sink.take(1)
+"""
+
+# A call on a trait: so may this, since an actor conforms to it by its methods, even if it does not name it.
+TRAIT = b"""\
+trait Sink
+  be take(n: U64)
+actor Counter is Sink
+  be take(n: U64) => None
+actor Other
+  be take(n: U64) => None
+actor Main
+  new create(env: Env) =>
+    let sink: Sink tag = Counter
+    sink.take(1)
+"""
+
+# What a function sends that nobody calls is not sent; what a called function sends is sent by its entity.
+UNCALLED = b"""\
+class Idle
+  fun tell(a: A) => a.stop()
+class Busy
+  fun tell(a: A) => a.go()
+actor A
+  be go() => None
+  be stop() => None
+actor Main
+  new create(env: Env) =>
+    let idle: Idle = Idle
+    let busy: Busy = Busy
+    busy.tell(A)
+"""
+
 SENT = [
     (
         "a bank",
@@ -87,6 +134,25 @@ SENT = [
         b"never B.create\n"
         b"never Main.other\n",
     ),
+    (
+        "an interface",
+        INTERFACE,
+        b"",
+        b"Main sends Counter.take\n"
+        b"Main sends Counter.create\n"
+        b"Main sends Other.take\n"
+        b"never Counter.spare\n"
+        b"never Other.create\n"
+        b"never Apart.take\n"
+        b"never Apart.create\n",
+    ),
+    (
+        "a trait",
+        TRAIT,
+        b"",
+        b"Main sends Counter.take\nMain sends Counter.create\nMain sends Other.take\nnever Other.create\n",
+    ),
+    ("a function that nobody calls", UNCALLED, b"", b"Busy sends A.go\nMain sends A.create\nnever A.stop\n"),
     ("a class without an object", CLASSES, b"", b"C sends OutStream.print\n"),
     # The entity that took over the method is the one that sends; traits send nothing.
     (

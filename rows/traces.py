@@ -38,12 +38,27 @@ WRITES_TOLD = b"""\
 accesses 4 ordered
 """
 
+# After eight steps, each round of the loop takes 18, and the ninth of them makes an actor. There are two at the start, so the 63rd
+# round would make the 65th.
+MANY = b"""\
+actor R
+  new create() => None
+actor Main
+  new create(env: Env) =>
+    var n: U64 = 0
+    while n < 100 do
+      R
+      n = n + 1
+    end
+"""
+
 TRACED = [
     ("a field that is read", HELLO, b"1*10 0", b"8 1 read 0.1 0 clock 0,8\naccesses 1 ordered\n"),
     ("no turns", HELLO, b"", b"accesses 0 ordered\n"),
     # Steps that are skipped have no access, and count in no clock.
     ("turns that are skipped", HELLO, b"7*2 1*10 0", b"10 1 read 0.1 0 clock 0,8\naccesses 1 ordered\n"),
     ("64 actors", CROWD, b"1*505", b"accesses 0 ordered\n"),
+    ("64 actors that a loop makes", MANY, b"1*1132", b"accesses 0 ordered\n"),
     ("a constructor that writes", WRITES, b"1*32", WRITES_TOLD),
 ]
 
@@ -53,6 +68,7 @@ REFUSED = [
     ("two actors that share an object", SHARED, b"1*25 2*8 3*8", 1, b"a.pony:4:14: parameter not sendable\n"),
     ("a bad word", HELLO, b"1*8 x", 7, b"a.sched:1:5: bad word\n"),
     ("65 actors", CROWD, b"1*506 1", 8, b"a.sched: too many actors at step 506\n"),
+    ("65 actors that a loop makes", MANY, b"1*2000", 8, b"a.sched: too many actors at step 1133\n"),
     ("a text that is too long", DOUBLES, b"1*9 0 1*1000", 12, b"a.sched: text too long at step 157\n"),
 ]
 

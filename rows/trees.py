@@ -1,7 +1,7 @@
 """Sources that have no tree."""
 
 from tables import built, endings
-from texts import in_groups, opened
+from texts import grouped, in_groups, opened
 
 # Two operators without parentheses.
 TWO_BODIES = b"""\
@@ -94,10 +94,18 @@ UNEXPECTED = [
     ("two entities, and a name", b"class C class D d", 3, b"a.pony:1:17: unexpected\n"),
 ]
 
+# A body and a value are at level 1, so that 199 more can be opened. Empty arguments open a level, too. Those without a Main have
+# a tree; the place is that of the level that is too many.
 LEVELS = [
     ("199 groups in one another", in_groups(199), 0, b""),
     ("200 groups in one another", in_groups(200), 8, b"a.pony:3:204: nested too deep\n"),
     ("100000 groups that are opened", opened(100_000), 8, b"a.pony:1:235: nested too deep\n"),
+    ("199 groups in a body", b"class C fun f() => " + grouped(199, b"1"), 4, b"a.pony: no Main\n"),
+    ("200 groups in a body", b"class C fun f() => " + grouped(200, b"1"), 8, b"a.pony:1:219: nested too deep\n"),
+    ("199 groups in a value", b"class C let x: U64 = " + grouped(199, b"1"), 4, b"a.pony: no Main\n"),
+    ("200 groups in a value", b"class C let x: U64 = " + grouped(200, b"1"), 8, b"a.pony:1:221: nested too deep\n"),
+    ("empty arguments in 198 groups", b"class C fun f() => " + grouped(198, b"g()"), 4, b"a.pony: no Main\n"),
+    ("empty arguments in 199 groups", b"class C fun f() => " + grouped(199, b"g()"), 8, b"a.pony:1:220: nested too deep\n"),
 ]
 
 ROWS = [

@@ -76,3 +76,29 @@ def items_at(place, count):
 def both(one, other):
     """What two forms say."""
     return Form(f"{one.words}; {other.words}", lambda came, before: one.holds(came, before) and other.holds(came, before))
+
+
+def node_lines(came):
+    """The lines of the nodes."""
+    return [line for line in came.splitlines() if line.startswith(b"n ")]
+
+
+def nodes_are(first, wanted):
+    """From a place on the nodes have these lines, and so far go those of a method."""
+
+    def holds(came, before):
+        found = node_lines(came)
+        method = wanted[0].split()[2]
+        return found[first : first + len(wanted)] == wanted and sum(line.split()[2] == method for line in found) == len(wanted)
+
+    return Form(f"from {first} on the nodes {wanted}", holds)
+
+
+def nodes_at(count, wanted):
+    """How many nodes there are, and at places the line of the node."""
+
+    def holds(came, before):
+        found = node_lines(came)
+        return len(found) == count and all(found[place] == line for place, line in wanted.items())
+
+    return Form(f"{count} nodes, and among them {wanted}", holds)

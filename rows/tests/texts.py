@@ -11,9 +11,14 @@ def spaces(size):
     return b" " * size
 
 
+def grouped(count, inner):
+    """This number of `(`, what is inside, and as many `)`."""
+    return b"(" * count + inner + b")" * count
+
+
 def in_groups(count):
-    """A Main whose body is this number of `(`, a number, and as many `)`."""
-    return b"actor Main\n  new create(env: Env) =>\n    " + b"(" * count + b"1" + b")" * count + b"\n"
+    """A Main whose body is a number in this number of groups."""
+    return b"actor Main\n  new create(env: Env) =>\n    " + grouped(count, b"1") + b"\n"
 
 
 def opened(count):
