@@ -35,19 +35,16 @@ fn wrong_row(alloc: Global, rows: &[Row]) -> Result<Option<Row>, Wrong> {
     Ok(other_row(&core, rows))
 }
 
-const ROWS: [Row; 4] = [
+// It says nothing of an entity that is not there.
+const ROWS: [Row; 5] = [
     (SHAPE, Some(true)),
     (SQUARE, Some(true)),
     (POINT, Some(false)),
     (MAIN, Some(false)),
+    (MAIN + 1, None),
 ];
 
 #[test]
 fn table_says_which_entities_conform(rt: HostRuntime) {
     assert_eq!(rt; wrong_row(rt.alloc(), &ROWS), Ok(None));
-}
-
-#[test]
-fn table_says_nothing_of_an_entity_that_is_not_there(rt: HostRuntime) {
-    assert_eq!(rt; wrong_row(rt.alloc(), &[(MAIN + 1, None)]), Ok(None));
 }

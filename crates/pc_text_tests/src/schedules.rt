@@ -1,6 +1,7 @@
 //! Schedules and their turns, by hand. Those that are no schedules, and their faults, are in `rows/hostile.py`.
+use crate::long_texts::text_of;
 use pc_sched::{Turn, read};
-use std::alloc::{AllocError, Global};
+use std::alloc::Global;
 
 /// An actor, and how many turns it takes.
 type Row = (u32, u32);
@@ -32,19 +33,11 @@ fn spells(alloc: Global, text: &[u8], rows: &[Row], count: usize) -> bool {
     }
 }
 
-// The same text this many times.
-fn repeated(alloc: Global, text: &[u8], count: usize) -> Result<Vec<u8>, AllocError> {
-    let mut whole = Vec::new(alloc);
-    for _ in 0..count {
-        whole.extend_from_slice(text)?;
-    }
-    Ok(whole)
-}
-
 /// A text and its turns, and how often both come.
 type Schedule = (&'static [u8], &'static [Row], usize);
 
-const SCHEDULES: [Schedule; 8] = [
+// The last one has as many words as the limit of bytes allows.
+const SCHEDULES: [Schedule; 9] = [
     (b"", &[], 1),
     (b" \t\r\n", &[], 1),
     (b"1*10 0", &[(1, 10), (0, 1)], 1),
@@ -57,12 +50,13 @@ const SCHEDULES: [Schedule; 8] = [
         1,
     ),
     (b"1*999999 2*0 1", &[(1, 999_999), (2, 0), (1, 1)], 1),
+    (b"3 ", &[(3, 1)], 524_288),
 ];
 
 // Whether a text that comes this often spells its turns.
 fn is_schedule(alloc: Global, schedule: Schedule) -> bool {
     let (text, rows, count) = schedule;
-    match repeated(alloc, text, count) {
+    match text_of(alloc, &[(text, count)]) {
         Ok(whole) => spells(alloc, whole.as_slice(), rows, count),
         Err(_) => false,
     }
@@ -81,12 +75,4 @@ fn wrong_schedule(alloc: Global, schedules: &[Schedule]) -> Option<usize> {
 #[test]
 fn schedules(rt: HostRuntime) {
     assert_eq!(rt; wrong_schedule(rt.alloc(), &SCHEDULES), None);
-}
-
-// As many words as the limit of bytes allows.
-const LONG: [Schedule; 1] = [(b"3 ", &[(3, 1)], 524_288)];
-
-#[test]
-fn a_schedule_of_524288_words_is_read(rt: HostRuntime) {
-    assert_eq!(rt; wrong_schedule(rt.alloc(), &LONG), None);
 }

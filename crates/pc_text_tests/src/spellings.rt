@@ -197,13 +197,9 @@ fn wrong_spelled(alloc: Global, spelled: &[Spelled]) -> Option<usize> {
 }
 
 #[test]
-fn every_word_and_sign(rt: HostRuntime) {
+fn every_word_and_sign_and_the_values_of_numbers_and_texts(rt: HostRuntime) {
     assert_eq!(rt; wrong_spelled(rt.alloc(), &WORDS), None);
     assert_eq!(rt; wrong_spelled(rt.alloc(), &SIGNS), None);
-}
-
-#[test]
-fn values_of_numbers_and_texts(rt: HostRuntime) {
     assert_eq!(rt; wrong_spelled(rt.alloc(), &NUMBERS), None);
     assert_eq!(rt; wrong_spelled(rt.alloc(), &TEXTS), None);
 }

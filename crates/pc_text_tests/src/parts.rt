@@ -1,5 +1,5 @@
 //! Parts of bodies: their trees, where reading stops, levels and long chains.
-use crate::levels::{Piece, text_of};
+use crate::long_texts::{Piece, text_of};
 use crate::rows::{Row, other_row};
 use pc_expr::{ParseFault, expr, infix, seq};
 use pc_test_inputs::{Wrong, tokens_of};
@@ -344,8 +344,8 @@ fn wrong_stop(alloc: Global, stops: &[Stop]) -> Option<(usize, Result<usize, Wro
 /// The pieces of a text, the level at which it is read as a sequence, and how many tokens are read, or why none are.
 type Long = (&'static [Piece], u16, Result<usize, Wrong>);
 
-// Two hundred levels, and one more.
-const LONG: [Long; 3] = [
+// Two hundred levels, and one more; and chains of operators, of suffixes and of arms.
+const LONG: [Long; 6] = [
     (&[(b"(", 200), (b"a", 1), (b")", 200)], 0, Ok(401)),
     (
         &[(b"(", 200), (b"a", 1), (b")", 200)],
@@ -356,6 +356,17 @@ const LONG: [Long; 3] = [
         &[(b"(", 201), (b"a", 1)],
         0,
         Err(Wrong::NoTree(ParseFault::TooDeep(200))),
+    ),
+    (&[(b"a", 1), (b"+a", 99_999)], 1, Ok(199_999)),
+    (&[(b"a", 1), (b".a", 99_999)], 1, Ok(199_999)),
+    (
+        &[
+            (b"if a then a ", 1),
+            (b"elseif a then a ", 49_998),
+            (b"end", 1),
+        ],
+        1,
+        Ok(199_997),
     ),
 ];
 
@@ -380,28 +391,9 @@ fn wrong_long(alloc: Global, long: &[Long]) -> Option<(usize, Result<usize, Wron
 #[test]
 fn stops(rt: HostRuntime) {
     assert_eq!(rt; wrong_stop(rt.alloc(), &STOPS), None);
+}
+
+#[test]
+fn stops_of_long_texts(rt: HostRuntime) {
     assert_eq!(rt; wrong_long(rt.alloc(), &LONG), None);
-}
-
-#[test]
-fn a_long_chain_of_operators(rt: HostRuntime) {
-    let read = long_read(rt.alloc(), &[(b"a", 1), (b"+a", 99_999)], 1);
-    assert_eq!(rt; read, Ok(199_999));
-}
-
-#[test]
-fn a_long_chain_of_suffixes(rt: HostRuntime) {
-    let read = long_read(rt.alloc(), &[(b"a", 1), (b".a", 99_999)], 1);
-    assert_eq!(rt; read, Ok(199_999));
-}
-
-const ARMS: [Piece; 3] = [
-    (b"if a then a ", 1),
-    (b"elseif a then a ", 49_998),
-    (b"end", 1),
-];
-
-#[test]
-fn a_long_chain_of_arms(rt: HostRuntime) {
-    assert_eq!(rt; long_read(rt.alloc(), &ARMS, 1), Ok(199_997));
 }

@@ -1,11 +1,11 @@
 //! A derivation in a file that is read in parts.
-use crate::cases::{Asked, asked_of, program, variant, variant2};
+use crate::judgements::{Asked, asked_of, program};
 use pc_core::Core;
 use pc_deriv::LineFault;
 use pc_feed::{DerivationFault, judge_file};
 use pc_io::MemFiles;
 use pc_referee::{ListReferee, Rules};
-use pc_test_inputs::Wrong;
+use pc_test_inputs::{LINES, Wrong, variant_of};
 use std::alloc::{AllocError, Global};
 use std::test::Fail;
 
@@ -59,33 +59,16 @@ fn wrong_reading(
 
 #[test]
 fn a_file_is_judged_as_its_bytes_are(rt: HostRuntime) -> Result<(), Fail> {
-    let text = variant(rt.alloc(), 0, b"")?;
+    let text = variant_of(rt.alloc(), &LINES, 0, b"")?;
     let mut files = files_with(rt.alloc(), &[3], &text)?;
     assert_eq!(rt; judged_asking(rt.alloc(), &mut files), Ok((Ok(()), Ok(7))));
     assert_eq!(rt; wrong_reading(rt.alloc(), &mut files, &READINGS), None);
     Ok(())
 }
 
-#[test]
-fn a_file_in_version_2_is_judged_as_its_bytes_are(rt: HostRuntime) -> Result<(), Fail> {
-    let text = variant2(rt.alloc(), 0, b"")?;
-    let mut files = files_with(rt.alloc(), &[], &text)?;
-    assert_eq!(rt; judged_asking(rt.alloc(), &mut files), Ok((Ok(()), Ok(7))));
-    Ok(())
-}
-
-#[test]
-fn a_file_in_no_version_is_refused(rt: HostRuntime) -> Result<(), Fail> {
-    let text = variant2(rt.alloc(), 1, b"rcap-derivation 3 4 7\n")?;
-    let mut files = files_with(rt.alloc(), &[], &text)?;
-    let fault = DerivationFault::Text(LineFault::BadLine(1));
-    assert_eq!(rt; judged(rt.alloc(), &mut files, "a.der"), Ok(Err(fault)));
-    Ok(())
-}
-
 // The derivation followed by 70,000 line ends.
 fn long_text(alloc: Global) -> Result<Vec<u8>, AllocError> {
-    let mut text = variant(alloc, 0, b"")?;
+    let mut text = variant_of(alloc, &LINES, 0, b"")?;
     for _ in 0..70_000 {
         text.push(b'\n')?;
     }

@@ -1,5 +1,5 @@
 //! Wherever a derivation is cut, the answer is the same.
-use crate::cases::{judge_pieces, program, variant, variant2};
+use crate::judgements::{judge_pieces, program};
 use pc_core::Core;
 use pc_deriv::LineFault;
 use pc_feed::{Stream, StreamFault};
@@ -7,7 +7,6 @@ use pc_judge::JudgeFault;
 use pc_referee::Rules;
 use pc_test_inputs::{LINES, LINES2, Wrong, variant_of};
 use std::alloc::{AllocError, Global};
-use std::test::Fail;
 
 // A place where a text can be cut so that it is not accepted, if there is one.
 fn refused_cut(alloc: Global, core: &Core, bytes: &[u8]) -> Option<usize> {
@@ -33,27 +32,20 @@ fn refused_byte(alloc: Global, core: &Core, bytes: &[u8]) -> Option<usize> {
     }
 }
 
-// Where a text can be cut so that it is not accepted as the program's derivation, and where it is refused byte by byte.
-fn refusals(alloc: Global, text: &[u8]) -> Result<(Option<usize>, Option<usize>), Wrong> {
+// Where a derivation can be cut so that it is not accepted as the program's, and where it is refused byte by byte.
+fn refusals(alloc: Global, lines: &[&[u8]]) -> Result<(Option<usize>, Option<usize>), Wrong> {
+    let text = variant_of(alloc, lines, 0, b"")?;
     let core = program(alloc)?;
     Ok((
-        refused_cut(alloc, &core, text),
-        refused_byte(alloc, &core, text),
+        refused_cut(alloc, &core, &text),
+        refused_byte(alloc, &core, &text),
     ))
 }
 
 #[test]
-fn wherever_the_derivation_is_cut_it_is_accepted(rt: HostRuntime) -> Result<(), Fail> {
-    let text = variant(rt.alloc(), 0, b"")?;
-    assert_eq!(rt; refusals(rt.alloc(), &text), Ok((None, None)));
-    Ok(())
-}
-
-#[test]
-fn wherever_the_derivation_in_version_2_is_cut_it_is_accepted(rt: HostRuntime) -> Result<(), Fail> {
-    let text = variant2(rt.alloc(), 0, b"")?;
-    assert_eq!(rt; refusals(rt.alloc(), &text), Ok((None, None)));
-    Ok(())
+fn wherever_the_derivation_is_cut_it_is_accepted(rt: HostRuntime) {
+    assert_eq!(rt; refusals(rt.alloc(), &LINES), Ok((None, None)));
+    assert_eq!(rt; refusals(rt.alloc(), &LINES2), Ok((None, None)));
 }
 
 // A line of the derivation by its number, other bytes for it, and the resulting fault.
@@ -175,24 +167,5 @@ fn wrong_variant(
 #[test]
 fn a_variant_cut_at_each_11th_byte_has_its_fault(rt: HostRuntime) {
     assert_eq!(rt; wrong_variant(rt.alloc(), &LINES, &VARIANTS), Ok(None));
-}
-
-#[test]
-fn a_variant_of_version_2_cut_at_each_11th_byte_has_its_fault(rt: HostRuntime) {
     assert_eq!(rt; wrong_variant(rt.alloc(), &LINES2, &VARIANTS2), Ok(None));
-}
-
-// What a judge reports of the program's derivation in one piece, if it keeps to it.
-fn judged(alloc: Global, text: &[u8]) -> Result<Option<Result<(), StreamFault>>, Wrong> {
-    let core = program(alloc)?;
-    Ok(judge_pieces(alloc, &core, text, b""))
-}
-
-#[test]
-fn a_text_that_breaks_off_comes_before_a_node_that_is_wrong(rt: HostRuntime) -> Result<(), Fail> {
-    let text = variant(rt.alloc(), 9, b"n new 6 ref 3 0 3 0\n")?;
-    let front = &text[..text.len().saturating_sub(1)];
-    let fault = StreamFault::Text(LineFault::BadLine(12));
-    assert_eq!(rt; judged(rt.alloc(), front), Ok(Some(Err(fault))));
-    Ok(())
 }

@@ -1,4 +1,4 @@
-//! A small program, its derivation, and what a judge reports of its variants.
+//! What a judge reports of a small program's derivation and of its variants, and what it asks.
 use pc_ann::Note;
 use pc_core::Core;
 use pc_feed::{Stream, StreamFault};
@@ -6,18 +6,7 @@ use pc_judge::JudgeFault;
 use pc_referee::{ListReferee, Rules};
 use pc_test_inputs::programs::ONE_OBJECT;
 use pc_test_inputs::{LINES, LINES2, NODES, Wrong, core_of, note, variant_of};
-use std::alloc::{AllocError, Global};
-use std::test::Fail;
-
-/// The derivation with other bytes for one line, counted from 1.
-pub(crate) fn variant(alloc: Global, number: usize, line: &[u8]) -> Result<Vec<u8>, AllocError> {
-    variant_of(alloc, &LINES, number, line)
-}
-
-/// The derivation in version 2 with other bytes for one line, counted from 1.
-pub(crate) fn variant2(alloc: Global, number: usize, line: &[u8]) -> Result<Vec<u8>, AllocError> {
-    variant_of(alloc, &LINES2, number, line)
-}
+use std::alloc::Global;
 
 /// The core of the program.
 pub(crate) fn program(alloc: Global) -> Result<Core, Wrong> {
@@ -80,28 +69,43 @@ fn judge_asking(alloc: Global, core: &Core, text: &[u8]) -> Judgement {
     (fed, end, asked_of(&referee))
 }
 
-// The same of the program.
-fn judged(alloc: Global, text: &[u8]) -> Result<Judgement, Wrong> {
+/// Lines of a derivation, the number of one of them, other bytes for it, and what is reported and asked then.
+type Row = (&'static [&'static [u8]], usize, &'static [u8], Judgement);
+
+const ALL: Judgement = (Ok(()), Ok(()), Ok(7));
+
+const THREE: Judgement = (
+    Ok(()),
+    Err(StreamFault::Invalid(JudgeFault::Node(3))),
+    Ok(3),
+);
+
+const ROWS: [Row; 4] = [
+    (&LINES, 0, b"", ALL),
+    (&LINES, 9, b"n new 6 ref 3 0 3 0\n", THREE),
+    (&LINES2, 0, b"", ALL),
+    (&LINES2, 9, b"n new 6 ref 3 0 0 0\n", THREE),
+];
+
+// The same of the program and the text of a row.
+fn judged(alloc: Global, row: &Row) -> Result<Judgement, Wrong> {
+    let text = variant_of(alloc, row.0, row.1, row.2)?;
     let core = program(alloc)?;
-    Ok(judge_asking(alloc, &core, text))
+    Ok(judge_asking(alloc, &core, &text))
+}
+
+// The place of the first of these rows of which something else is reported or asked, and what is.
+fn wrong_judgement(alloc: Global, rows: &[Row]) -> Option<(usize, Result<Judgement, Wrong>)> {
+    for at in 0..rows.len() {
+        let found = judged(alloc, &rows[at]);
+        if found != Ok(rows[at].3) {
+            return Some((at, found));
+        }
+    }
+    None
 }
 
 #[test]
-fn each_node_is_asked_up_to_the_first_fault(rt: HostRuntime) -> Result<(), Fail> {
-    let text = variant(rt.alloc(), 0, b"")?;
-    assert_eq!(rt; judged(rt.alloc(), &text), Ok((Ok(()), Ok(()), Ok(7))));
-    let text = variant(rt.alloc(), 9, b"n new 6 ref 3 0 3 0\n")?;
-    let fault = StreamFault::Invalid(JudgeFault::Node(3));
-    assert_eq!(rt; judged(rt.alloc(), &text), Ok((Ok(()), Err(fault), Ok(3))));
-    Ok(())
-}
-
-#[test]
-fn the_same_is_asked_in_version_2(rt: HostRuntime) -> Result<(), Fail> {
-    let text = variant2(rt.alloc(), 0, b"")?;
-    assert_eq!(rt; judged(rt.alloc(), &text), Ok((Ok(()), Ok(()), Ok(7))));
-    let text = variant2(rt.alloc(), 9, b"n new 6 ref 3 0 0 0\n")?;
-    let fault = StreamFault::Invalid(JudgeFault::Node(3));
-    assert_eq!(rt; judged(rt.alloc(), &text), Ok((Ok(()), Err(fault), Ok(3))));
-    Ok(())
+fn each_node_is_asked_up_to_the_first_fault(rt: HostRuntime) {
+    assert_eq!(rt; wrong_judgement(rt.alloc(), &ROWS), None);
 }

@@ -70,8 +70,8 @@ fn seen_in_core(
     }
 }
 
-// The list of actors for these turns, each an actor and a number of steps.
-fn list_of(alloc: Global, turns: &[(u32, u32)]) -> Result<Vec<u32>, AllocError> {
+/// The list of actors for these turns, each an actor and a number of steps.
+pub fn list_of(alloc: Global, turns: &[(u32, u32)]) -> Result<Vec<u32>, AllocError> {
     let mut list = Vec::new(alloc);
     for (actor, times) in turns {
         list.resize(list.len().saturating_add(*times as usize), *actor)?;

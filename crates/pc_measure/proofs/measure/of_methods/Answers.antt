@@ -1,9 +1,0 @@
-use Rattle.std.proofs.{Common.{arith, map}, lemmas.List.at_drop_all}
-use Rattle.pc_measure.specs.Sizes.{methods_size}
-use Rattle.pc_tree.specs.View.{method_view}
-use Rattle.pc_measure.proofs.measure.of_methods.Goals as goal
-
-pub returns : goal.returns
-returns c =
-    let end = at_drop_all (λ xs. methods_size (map method_view xs)) c.args.xs.now c.loop-x.x-index (omega arith) in
-    omega (arith, c.loop-x.invariant.0, c.loop-x.invariant.1, end)
