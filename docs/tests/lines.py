@@ -20,7 +20,7 @@ CONTRACT = [
 
 # The definitions of commands that came after the limits on these counts had been set, by command.
 LATER_COMMANDS = {
-    "explain": [("pc_top", "Commands/Explain"), ("pc_commands", "Explain")],
+    "explain": [("pc_top", "Commands/Explain"), ("pc_explain_command", "Explain")],
     "events": [("pc_top", "Commands/Events"), ("pc_commands", "Events")],
     "places": [("pc_top", "Commands/Places")],
     "schedule": [("pc_top", "Commands/Schedule"), ("pc_commands", "Schedule")],

@@ -1,7 +1,6 @@
 pub mod Chosen
 mod Crowding
 pub mod EventsTold
-pub mod Explained
 mod InOrder
 mod MadeEnds
 pub mod Neighbouring

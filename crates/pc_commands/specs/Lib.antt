@@ -1,6 +1,4 @@
 pub mod Events
-pub mod Explain
-pub mod Inner
 pub mod Judge
 pub mod Make
 pub mod Outcomes

@@ -1,7 +1,8 @@
 //! What commands do with a core: how a program runs, and what is said of it.
 //!
 //! Each function here is the last part of a command, after its files were read and its source has a core. Nothing here
-//! reads a file or makes a core, so none of it waits for the elaboration; `pc_top` reads, and calls these.
+//! reads a file or makes a core, so none of it waits for the elaboration; `pc_top` reads, and calls these. That of
+//! `explain` is in `pc_explain_command`, above the crates of explanations.
 //!
 //! Proved, of each file of its name:
 //! - `run`, `play`, `make`: what went to out is the text of the run, or a part of it with the cause, and the verdict
@@ -13,8 +14,6 @@
 //! - `outcomes`: the text is that of the table of the outcomes (`OutcomesTelling`), and which words are a count
 //!   (`IsCount`).
 //! - `sends`: the text is that of the one table of who sends what (`IsSendsText`).
-//! - `explain`: the text says that a core is accepted, or why it has no derivation, or what is wrong with the names of
-//!   its file (`Explaining`).
 //! - `check`, `upgrade`: the text is that of an annotation, in version 1 and in version 2.
 //!
 //! For what is proved of definitions alone there are lemmas: each of these has at most one verdict, and which statuses
@@ -25,7 +24,6 @@
 
 mod check;
 mod events;
-mod explain;
 mod make;
 mod outcomes;
 mod play;
@@ -39,7 +37,6 @@ mod upgrade;
 
 pub use check::write_derivation;
 pub use events::tell_turns;
-pub use explain::{explain_fault, write_core};
 pub use make::{read_numbers, run_generated};
 pub use outcomes::{count_of, write_outcomes};
 pub use play::play_core;

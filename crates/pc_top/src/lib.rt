@@ -1,5 +1,5 @@
 //! The top call: everything that the program does, from its words, files and sinks to its exit status. What a command
-//! does with a core is below, in `pc_commands`.
+//! does with a core is below, in `pc_commands`, and for `explain` in `pc_explain_command`.
 //!
 //! Proved: the clauses of `rcap`, and the laws beside it.
 //! - There is at most one verdict on files that are known and did not fail (`verdict_is_one`), and none has the

@@ -11,7 +11,8 @@ use Rattle.pc_print.specs.Printing.{printed}
 use Rattle.pc_token.specs.declared.kinds.Token.{Token}
 use Rattle.pc_tree.specs.Tree as t
 use Rattle.pc_refusals.specs.{Verdict.{Named, Reading, Verdict, done}, Source.{Elaborating, FileStage, SourceStage, source_limit}, Source.Elaborating.{elaborated, misnamed, misused}, declared.source.Source.Source}
-use Rattle.pc_commands.specs.{Explain.{CoreText, Explaining, fault_end}, Explain.CoreText.{accepted, explained}, Explain.Explaining.{has_core as core_explained, has_fault}, Judge.accepted_text}
+use Rattle.pc_explain_command.specs.{Explain.{CoreText, Explaining, fault_end}, Explain.CoreText.{accepted, explained}, Explain.Explaining.{has_core as core_explained, has_fault}}
+use Rattle.pc_commands.specs.Judge.{accepted_text}
 use Rattle.pc_top.specs.{Commands.Explain.{Explained, ExplainedStage, IsExplain}, Commands.Explain.ExplainedStage.{has_none, has_tree}, Commands.Places.{IsPlaces, Placed}, Commands.Show.{IsShow, Shown}, CoresFormed.CoresAreFormed}
 use Rattle.pc_top.proofs.Deriving.{file_says, source_says}
 use Rattle.pc_verdicts.proofs.{Elaborated.{elaborating_ends, file_ends, source_ends}, Stages.{Answers, HasEnd, ReadOn, file_answers, read_file}, Typed.{Checked, checked, fails, is_valid, left, stopped}}

@@ -7,9 +7,9 @@ use Rattle.pc_io.specs.Sink.{Change}
 use Rattle.pc_tree.specs.Tree as t
 use Rattle.pc_refusals.specs.{Verdict.{Files, IsReadingOf, Named, Reading, named, whole, IsAccepting, Verdict}, Source.{FileStage, source_limit}}
 use Rattle.pc_refusals.proofs.{LastStages.{from_status, passed}, OneSource.one_from, Statuses.{IsOther, IsOwn, file_other, other_not_one, other_own, other_refuses}}
-use Rattle.pc_commands.specs.Explain.{Explaining}
+use Rattle.pc_explain_command.specs.Explain.{Explaining}
 use Rattle.pc_top.specs.{Commands.Explain.{Explained, ExplainedStage, IsExplain, WritesExplained}, Commands.Explain.ExplainedStage.{has_none, has_tree}}
-use Rattle.pc_commands.proofs.Explained.{IsOtherEnd, explaining_other}
+use Rattle.pc_explain_command.proofs.Explained.{IsOtherEnd, explaining_other}
 use Rattle.pc_top.proofs.{Accepted.of_told, Deriving.file_says, Room.{NotOne, Room, looks_for_none, zero_not_one, zero_own}, Rooms.Explain.One.one_explained}
 pub mod Ends
 pub mod One

@@ -6,7 +6,7 @@ use Rattle.pc_lex.specs.Pieces.{TokenList}
 use Rattle.pc_base.specs.Lists.{Text}
 use Rattle.pc_refusals.specs.{Source.{FromFile, FileStage, source_limit}, Verdict.{Named, Reading, whole, Verdict, done}}
 use Rattle.pc_token.specs.declared.kinds.Token.{Token}
-use Rattle.pc_commands.specs.Explain.{Explaining}
+use Rattle.pc_explain_command.specs.Explain.{Explaining}
 use Rattle.pc_tree.specs.Tree as t
 
 -- The stages of a source, one after another: its length, its tokens and its tree, and then the text for the tree.

@@ -10,13 +10,13 @@ ghost use Rattle.pc_refusals.specs.Inner.Answering.{AnswersText};
 ghost use Rattle.pc_refusals.specs.Inner.Stages.{StageEnds};
 ghost use Rattle.pc_refusals.specs.Verdict.{FailedAt, files_change, named, whole};
 ghost use Rattle.pc_tree.specs.View.{file_view};
-ghost use Rattle.pc_commands.specs.Explain.{Explaining, IsFileFault};
+ghost use Rattle.pc_explain_command.specs.Explain.{Explaining, IsFileFault};
 ghost use Rattle.pc_top.specs.Commands.Explain.{ExplainedStage, IsExplain};
 
 use pc_base::List;
-use pc_commands::{explain_fault, write_core};
 use pc_core::Core;
 use pc_elab::elaborate;
+use pc_explain_command::{explain_fault, write_core};
 use pc_io::Files;
 use pc_names::{NameFault, collect};
 use pc_refusals::{SOURCE_LIMIT, Stop, parse_source, read_file};

@@ -8,7 +8,7 @@ use Rattle.pc_places.specs.Text.{HasTokens}
 use Rattle.pc_tree.specs.Tree as t
 use Rattle.pc_refusals.specs.{Source.After.goes, Source.FromFile.{goes_on, refuses}, Inner.Answering.AnswersText, Inner.Stages.{StageEnds, StageStops}, Verdict.{FailedAt, IsReadingOf, Named, whole, refused}, Source.{SyntaxStage, source_limit}, Source.Length.fits, Source.Lexing.lexed, declared.stop.Stop.Stop, declared.stop.Stop.TheVariants.{File, Memory, Refused, Sink}}
 use Rattle.pc_refusals.proofs.Stops.{stops_as}
-use Rattle.pc_commands.specs.Explain.{Explaining, IsFileFault}
+use Rattle.pc_explain_command.specs.Explain.{Explaining, IsFileFault}
 use Rattle.pc_top.specs.{Commands.Explain.{ExplainedStage, IsExplain}, Commands.Explain.ExplainedStage.{has_none, has_tree}}
 use Rattle.pc_top.proofs.Facts.{member_fault}
 

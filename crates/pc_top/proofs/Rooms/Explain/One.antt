@@ -11,7 +11,7 @@ use Rattle.pc_token.specs.declared.kinds.Token.{Token}
 use Rattle.pc_tree.specs.Tree as t
 use Rattle.pc_refusals.specs.{Source.FileStage, Ends.HasOneEnd, Verdict.{Reading, whole, Verdict}}
 use Rattle.pc_refusals.proofs.OneSource.{differ, never_misnamed, never_misused, not_both_faults, ok_same, one_file, one_member_fault}
-use Rattle.pc_commands.specs.{Explain.{CoreText, Explaining, IsFileFault, fault_end}, Explain.CoreText.{accepted, explained}, Explain.Explaining.{has_core, has_fault}}
+use Rattle.pc_explain_command.specs.{Explain.{CoreText, Explaining, IsFileFault, fault_end}, Explain.CoreText.{accepted, explained}, Explain.Explaining.{has_core, has_fault}}
 use Rattle.pc_top.specs.{Commands.Explain.ExplainedStage, Commands.Explain.ExplainedStage.{has_none, has_tree}}
 use Rattle.pc_top.proofs.{Deriving.file_says, Premises.Laws}
 

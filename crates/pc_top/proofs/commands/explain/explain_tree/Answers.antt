@@ -1,4 +1,4 @@
-use Rattle.pc_commands.specs.Explain.Explaining.{has_core}
+use Rattle.pc_explain_command.specs.Explain.Explaining.{has_core}
 use Rattle.pc_top.proofs.commands.explain.explain_tree.Goals as goal
 
 pub returns-in_ok-write_core-in-Ok : goal.returns-in_ok-write_core-in-Ok

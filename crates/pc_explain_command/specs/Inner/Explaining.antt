@@ -4,7 +4,7 @@ use Rattle.pc_core.specs.CoreData.{CoreData}
 use Rattle.pc_lex.specs.Pieces.{TokenList}
 use Rattle.pc_base.specs.Lists.{Text}
 use Rattle.pc_token.specs.declared.kinds.Token.{Token}
-use Rattle.pc_commands.specs.Explain.{CoreText}
+use Rattle.pc_explain_command.specs.Explain.{CoreText}
 
 -- This is the text for the core, with the tokens of the source with these bytes.
 abbrev pub TellsCore : (name bytes : Text) → CoreData → Text → Type 0

@@ -1,7 +1,7 @@
 use Rattle.std.proofs.lemmas.Result.{IfOk-weaker}
 use Rattle.pc_lex.specs.Pieces.{TokenList}
-use Rattle.pc_commands.specs.Explain.CoreText.{explained}
-use Rattle.pc_commands.proofs.explain.explain_refused.Goals as goal
+use Rattle.pc_explain_command.specs.Explain.CoreText.{explained}
+use Rattle.pc_explain_command.proofs.explain.explain_refused.Goals as goal
 
 pub returns : goal.returns
 returns c =

@@ -8,7 +8,7 @@ use Rattle.pc_names.specs.declared.fault.NameFault.TheVariants as fault
 use Rattle.pc_tree.specs.Tree as t
 use Rattle.pc_refusals.specs.{Inner.Refusals.IsNameStop, Inner.Stages.StageStops, FaultLines.{name_line, name_status}, Verdict.{Verdict, refused}, declared.stop.Stop.Stop}
 use Rattle.pc_refusals.proofs.{Statuses.IsOther, Stops.name_stops}
-use Rattle.pc_commands.specs.{Explain.{Explaining, IsFileFault, fault_end, is_not_explained}, Explain.Explaining.{has_core, has_fault}}
+use Rattle.pc_explain_command.specs.{Explain.{Explaining, IsFileFault, fault_end, is_not_explained}, Explain.Explaining.{has_core, has_fault}}
 
 module _ (name bytes : Text) (file : t.File) (f : NameFault) (of : IsNotMemory f → IsFileFault file f) where
   -- it is refused

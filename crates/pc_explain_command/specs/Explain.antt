@@ -1,22 +1,21 @@
 -- `explain SRC`: the text for a core, and what comes of a fault of a tree.
-use Rattle.std.specs.Prelude.{◌⊎◌, Bool, true, false, List, Result, Ok, Err, if◌then◌else◌}
+use Rattle.std.specs.Prelude.{◌⊎◌, ◌++◌, Bool, true, false, List, Result, Ok, Err, codes, if◌then◌else◌}
 use Rattle.pc_core.specs.CoreData.{CoreData}
 use Rattle.pc_core_relation.specs.{Files.IsCoreOf, MemberFaults.IsMemberFault}
 use Rattle.pc_explain.specs.Explanation.{IsExplanation}
 use Rattle.pc_explain_names.specs.Names.{names_text}
 use Rattle.pc_lex.specs.Pieces.{TokenList}
-use Rattle.pc_base.specs.Lists.{Text}
+use Rattle.pc_base.specs.Lists.{Text, line_end}
 use Rattle.pc_names.specs.{Faults.{IsNotMemory, IsNameFault}, declared.fault.NameFault.NameFault}
 use Rattle.pc_refusals.specs.{FaultLines.{name_line, name_status}, Verdict.{Verdict, refused}}
 use Rattle.pc_valid.specs.Valid.{Derivable}
 use Rattle.pc_token.specs.declared.kinds.Token.{Token}
-use Rattle.pc_commands.specs.Judge.{accepted_text}
 use Rattle.pc_names.specs.declared.fault.NameFault.TheVariants as fault
 use Rattle.pc_tree.specs.Tree as t
 
 -- The text for a core: that it is accepted, because it has a derivation, or why it has none.
 pub data CoreText (name bytes : Text) (tokens : List Token) (core : CoreData) : Text → Type 0 where
-  accepted : Derivable core → CoreText name bytes tokens core accepted_text
+  accepted : Derivable core → CoreText name bytes tokens core (codes "accepted" ++ line_end)
   explained : {text : Text} → IsExplanation name bytes tokens core text → CoreText name bytes tokens core text
 
 -- A limit that is passed is refused, as `check` refuses it, and not explained. Running out of memory is not a fault of

@@ -6,9 +6,9 @@ ghost use Rattle.pc_names.specs.Faults.{IsNotMemory};
 ghost use Rattle.pc_places.specs.Text.{HasTokens};
 ghost use Rattle.pc_refusals.specs.Inner.Stages.{StageEnds};
 ghost use Rattle.pc_tree.specs.View.{file_view};
-ghost use Rattle.pc_commands.specs.Explain as spec;
-ghost use Rattle.pc_commands.specs.Explain.{Explaining, IsFileFault};
-ghost use Rattle.pc_commands.specs.Inner.Explaining.{TellsCore};
+ghost use Rattle.pc_explain_command.specs.Explain as spec;
+ghost use Rattle.pc_explain_command.specs.Explain.{Explaining, IsFileFault};
+ghost use Rattle.pc_explain_command.specs.Inner.Explaining.{TellsCore};
 
 use pc_base::List;
 use pc_check::{CheckFault, check};

@@ -1,6 +1,6 @@
 use Rattle.std.proofs.lemmas.Result.{IfOk-weaker}
-use Rattle.pc_commands.specs.Explain.CoreText.{accepted}
-use Rattle.pc_commands.proofs.explain.write_core.Goals as goal
+use Rattle.pc_explain_command.specs.Explain.CoreText.{accepted}
+use Rattle.pc_explain_command.proofs.explain.write_core.Goals as goal
 
 pub returns-in-Ok : goal.returns-in-Ok
 returns-in-Ok c =

@@ -1,7 +1,7 @@
 use Rattle.std.proofs.Common.{sym, ◌∙◌}
 use Rattle.pc_tree.specs.View.{file_view}
-use Rattle.pc_commands.proofs.Explained.{fault_says, fault_stops}
-use Rattle.pc_commands.proofs.explain.explain_fault.Goals as goal
+use Rattle.pc_explain_command.proofs.Explained.{fault_says, fault_stops}
+use Rattle.pc_explain_command.proofs.explain.explain_fault.Goals as goal
 
 pub returns-then-is_refused : goal.returns-then-is_refused
 returns-then-is_refused c =
