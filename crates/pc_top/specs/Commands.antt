@@ -1,4 +1,4 @@
--- What each command does: a row of each table here, and a file with its definition.
+-- What each command means: a row here, and a file with its definition.
 pub mod Check
 pub mod Events
 pub mod Explain
@@ -14,109 +14,50 @@ pub mod Show
 pub mod Swap
 pub mod Trace
 pub mod Upgrade
-use Rattle.std.specs.{Prelude.{ℕ, ◌≡◌, ◌⊎◌, Bool, true, false, [], Option, Some, None, IfSome}, Io.KnownBytes.Appends}
+use Rattle.std.specs.Prelude.{◌≡◌, Bool, Option, Some, None}
 use Rattle.pc_base.specs.Lists.{Text}
-use Rattle.pc_args.specs.{Asked.{Asked, check, events, explain, judge, make, outcomes, places, play, run, schedule_of, sends, show, swap, trace, upgrade}, Line.{IsSeed, IsSize}}
+use Rattle.pc_args.specs.Asked.{Asked, check, events, explain, judge, make, outcomes, places, play, run, schedule_of, sends, show, swap, trace, upgrade}
 use Rattle.pc_io.specs.Sink.{Change}
 use Rattle.pc_refusal_lines.specs.Lines.{usage_line}
-use Rattle.pc_refusals.specs.Verdict.{FailedAt, Files, named, Verdict, refused}
-use Rattle.pc_top.specs.{Commands.Check.{IsCheck, WritesDerivation}, Commands.Events.{IsEvents, WritesEvents}, Commands.Explain.{IsExplain, WritesExplained}, Commands.Judge.IsJudge, Commands.Make.{IsMake, WritesMade}, Commands.Outcomes.{IsOutcomes, WritesOutcomes}, Commands.Places.{IsPlaces, WritesPlaces}, Commands.Play.{IsPlay, WritesPlay}, Commands.Run.{IsRun, WritesRun}, Commands.Schedule.{IsSchedule, WritesSchedule}, Commands.Sends.{IsSends, WritesSends}, Commands.Show.{IsShow, WritesTree}, Commands.Swap.{IsSwap, UnreadSwap, WritesSwap}, Commands.Trace.{IsTrace, WritesTrace}, Commands.Upgrade.{IsUpgrade, WritesUpgraded}, Shapes.{UnreadDerivation, UnreadNumbered, UnreadScheduled}}
-use Rattle.pc_commands.specs.{Judge.accepted_text, Outcomes.IsCount, Swap.IsPlace}
+use Rattle.pc_refusals.specs.Verdict.{Files, Verdict, refused}
+use Rattle.pc_top.specs.{Commands.Check.check_meaning, Commands.Events.events_meaning, Commands.Explain.explain_meaning, Commands.Judge.judge_meaning, Commands.Make.make_meaning, Commands.Outcomes.outcomes_meaning, Commands.Places.places_meaning, Commands.Play.play_meaning, Commands.Run.run_meaning, Commands.Schedule.schedule_meaning, Commands.Sends.sends_meaning, Commands.Show.show_meaning, Commands.Swap.swap_meaning, Commands.Trace.trace_meaning, Commands.Upgrade.upgrade_meaning, Meaning.CommandMeaning}
+
+abbrev pub meaning_of : Asked → CommandMeaning
+meaning_of (check source) = check_meaning source
+meaning_of (judge source derivation) = judge_meaning source derivation
+meaning_of (run source schedule) = run_meaning source schedule
+meaning_of (show source) = show_meaning source
+meaning_of (make seed size) = make_meaning seed size
+meaning_of (swap source schedule place) = swap_meaning source schedule place
+meaning_of (trace source schedule) = trace_meaning source schedule
+meaning_of (events source schedule) = events_meaning source schedule
+meaning_of (places source) = places_meaning source
+meaning_of (explain source) = explain_meaning source
+meaning_of (sends source) = sends_meaning source
+meaning_of (upgrade source derivation) = upgrade_meaning source derivation
+meaning_of (schedule_of source seed) = schedule_meaning source seed
+meaning_of (play source seed) = play_meaning source seed
+meaning_of (outcomes source count) = outcomes_meaning source count
 
 -- A command's verdict. Words that the command line does not take are refused with status 2.
 abbrev pub IsVerdictOf : Files → Option Asked → Verdict → Type 0
 IsVerdictOf files None v = v ≡ refused 2 usage_line
-IsVerdictOf files (Some (check source)) v = IsCheck (named files source) v
-IsVerdictOf files (Some (judge source derivation)) v = IsJudge (named files source) (named files derivation) v
-IsVerdictOf files (Some (run source schedule)) v = IsRun (named files source) (named files schedule) v
-IsVerdictOf files (Some (show source)) v = IsShow (named files source) v
-IsVerdictOf files (Some (make seed size)) v = IsMake seed size v
-IsVerdictOf files (Some (swap source schedule place)) v = IsSwap (named files source) (named files schedule) place v
-IsVerdictOf files (Some (trace source schedule)) v = IsTrace (named files source) (named files schedule) v
-IsVerdictOf files (Some (events source schedule)) v = IsEvents (named files source) (named files schedule) v
-IsVerdictOf files (Some (places source)) v = IsPlaces (named files source) v
-IsVerdictOf files (Some (explain source)) v = IsExplain (named files source) v
-IsVerdictOf files (Some (sends source)) v = IsSends (named files source) v
-IsVerdictOf files (Some (upgrade source derivation)) v = IsUpgrade (named files source) (named files derivation) v
-IsVerdictOf files (Some (schedule_of source seed)) v = IsSchedule (named files source) seed v
-IsVerdictOf files (Some (play source seed)) v = IsPlay (named files source) seed v
-IsVerdictOf files (Some (outcomes source count)) v = IsOutcomes (named files source) count v
+IsVerdictOf files (Some asked) v = (meaning_of asked).verdict files v
 
--- The file that the command could not read: its failures rose. Those of a later file are a cause only if the command
--- gets that far.
+-- The file that the command could not read.
 abbrev pub FailedOf : Files → Option Asked → Text → Type 0
 FailedOf files None name = ⊥
-FailedOf files (Some (check source)) name = FailedAt (named files source) name
-FailedOf files (Some (judge source derivation)) name = UnreadDerivation (named files source) (named files derivation) name
-FailedOf files (Some (run source schedule)) name = UnreadScheduled (named files source) (named files schedule) name
-FailedOf files (Some (show source)) name = FailedAt (named files source) name
-FailedOf files (Some (make seed size)) name = ⊥
-FailedOf files (Some (swap source schedule place)) name = UnreadSwap (named files source) (named files schedule) place name
-FailedOf files (Some (trace source schedule)) name = UnreadScheduled (named files source) (named files schedule) name
-FailedOf files (Some (sends source)) name = FailedAt (named files source) name
-FailedOf files (Some (upgrade source derivation)) name = UnreadDerivation (named files source) (named files derivation) name
-FailedOf files (Some (schedule_of source seed)) name = UnreadNumbered (IsSeed seed) (named files source) name
-FailedOf files (Some (play source seed)) name = UnreadNumbered (IsSeed seed) (named files source) name
-FailedOf files (Some (outcomes source count)) name = UnreadNumbered (IsCount count) (named files source) name
-FailedOf files (Some (places source)) name = FailedAt (named files source) name
-FailedOf files (Some (explain source)) name = FailedAt (named files source) name
-FailedOf files (Some (events source schedule)) name = UnreadScheduled (named files source) (named files schedule) name
+FailedOf files (Some asked) name = (meaning_of asked).failed files name
 
--- The file among them whose core must have a derivation, if there is one. The program of `make` is in no file.
+-- The file among them whose core must have a derivation, if there is one.
 abbrev pub source_of : Asked → Option Text
-source_of (check source) = Some source
-source_of (judge source derivation) = Some source
-source_of (run source schedule) = Some source
-source_of (show source) = None
-source_of (make seed size) = None
-source_of (swap source schedule place) = Some source
-source_of (trace source schedule) = Some source
-source_of (events source schedule) = Some source
-source_of (places source) = None
-source_of (explain source) = None
-source_of (sends source) = Some source
-source_of (upgrade source derivation) = Some source
-source_of (schedule_of source seed) = Some source
-source_of (play source seed) = Some source
-source_of (outcomes source count) = Some source
+source_of asked = (meaning_of asked).source
 
 -- Whether the command looks for this derivation itself.
 abbrev pub infers : Asked → Bool
-infers (check source) = true
-infers (judge source derivation) = false
-infers (run source schedule) = true
-infers (show source) = false
-infers (make seed size) = true
-infers (swap source schedule place) = true
-infers (trace source schedule) = true
-infers (events source schedule) = true
-infers (places source) = false
-infers (explain source) = false
-infers (sends source) = true
-infers (upgrade source derivation) = false
-infers (schedule_of source seed) = true
-infers (play source seed) = true
-infers (outcomes source count) = true
+infers asked = (meaning_of asked).infers
 
--- What is on out after a command has passed all its stages, if the bytes of its files are known. `swap`, `trace` and
--- `events` write nothing if a text ended the run.
+-- What is on out after a command has passed all its stages, if the bytes of its files are known.
 abbrev pub OnOutOf : (Text → Option Text) → Option Asked → Change → Type 0
 OnOutOf known None out = ⊥
-OnOutOf known (Some (check source)) out = IfSome (known source) (WritesDerivation out)
-OnOutOf known (Some (judge source derivation)) out = Appends out.before out.now accepted_text
-OnOutOf known (Some (run source schedule)) out = IfSome (known source) (λ bytes. IfSome (known schedule) (WritesRun out bytes))
-OnOutOf known (Some (show source)) out = IfSome (known source) (WritesTree out)
-OnOutOf known (Some (make seed size)) out = (a b : ℕ) × IsSeed seed a × IsSize size b × WritesMade out a b
-OnOutOf known (Some (swap source schedule place)) out =
-    IfSome (known source) (λ bytes. IfSome (known schedule) (λ text. (n : ℕ) × IsPlace place n × (WritesSwap out bytes text n ⊎ Appends out.before out.now [])))
-OnOutOf known (Some (trace source schedule)) out =
-    IfSome (known source) (λ bytes. IfSome (known schedule) (λ text. WritesTrace out bytes text ⊎ Appends out.before out.now []))
-OnOutOf known (Some (events source schedule)) out =
-    IfSome (known source) (λ bytes. IfSome (known schedule) (λ text. WritesEvents out bytes text ⊎ Appends out.before out.now []))
-OnOutOf known (Some (places source)) out = IfSome (known source) (WritesPlaces out)
-OnOutOf known (Some (explain source)) out = IfSome (known source) (WritesExplained out source)
-OnOutOf known (Some (sends source)) out = IfSome (known source) (WritesSends out)
-OnOutOf known (Some (upgrade source derivation)) out = IfSome (known source) (λ bytes. IfSome (known derivation) (WritesUpgraded out bytes))
-OnOutOf known (Some (schedule_of source seed)) out = IfSome (known source) (λ bytes. (n : ℕ) × IsSeed seed n × WritesSchedule out n bytes)
-OnOutOf known (Some (play source seed)) out = IfSome (known source) (λ bytes. (n : ℕ) × IsSeed seed n × WritesPlay out n bytes)
-OnOutOf known (Some (outcomes source count)) out = IfSome (known source) (λ bytes. (n : ℕ) × IsCount count n × WritesOutcomes out n bytes)
+OnOutOf known (Some asked) out = (meaning_of asked).on_out known out

@@ -7,6 +7,7 @@ pub mod CoresFormed
 pub mod Exact
 pub mod Failures
 pub mod Inner
+pub mod Meaning
 pub mod OnOut
 pub mod One
 pub mod Played

@@ -1,5 +1,5 @@
 -- `make SEED SIZE`.
-use Rattle.std.specs.{Prelude.{ℕ, ◌≡◌, ◌++◌, length}, Io.KnownBytes.Appends}
+use Rattle.std.specs.{Prelude.{ℕ, ◌≡◌, ◌++◌, true, [], length, None}, Io.KnownBytes.Appends}
 use Rattle.pc_io.specs.Sink.{Change}
 use Rattle.pc_core.specs.CoreData.{CoreData}
 use Rattle.pc_args.specs.Line.{IsSeed, IsSize}
@@ -10,7 +10,7 @@ use Rattle.pc_base.specs.Lists.{Text}
 use Rattle.pc_refusal_lines.specs.Lines.{counts_line, usage_line}
 use Rattle.pc_refusals.specs.{Verdict.{text_as, Verdict, refused}, declared.typing.Accepted.Accepted}
 use Rattle.pc_commands.specs.Make.{RanMade, SpellsNone, made_name}
-use Rattle.pc_top.specs.{CoreOf.CoreOf, Shapes.OfAccepted}
+use Rattle.pc_top.specs.{CoreOf.CoreOf, Shapes.OfAccepted, Meaning.CommandMeaning}
 
 -- The run of its core by its own schedule, after the line of its numbers.
 abbrev pub MadeRun : (seed size : ℕ) → Accepted → Verdict → Type 0
@@ -31,3 +31,15 @@ abbrev pub WritesMade : Change → (seed size : ℕ) → Type 0
 WritesMade out seed size =
     (core : CoreData) × CoreOf (generated_text seed size) core
     × Appends out.before out.now (counts_line seed size (length core.nodes) ++ run_text core (spread (schedule size)))
+
+-- What `make` means.
+abbrev pub make_meaning : Text → Text → CommandMeaning
+make_meaning seed size = record {
+  verdict = λ files. IsMake seed size;
+  failed = λ files name. ⊥;
+  source = None;
+  infers = true;
+  on_out = λ known out. (a b : ℕ) × IsSeed seed a × IsSize size b × WritesMade out a b;
+  files = [];
+  has_number = Unit {0};
+}
