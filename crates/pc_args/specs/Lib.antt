@@ -5,4 +5,4 @@ pub mod ReadingEnds
 pub mod Refused
 pub mod Commands
 pub mod Numbers
-pub mod Subcommands
+pub mod Rows

@@ -9,10 +9,30 @@ ghost use Rattle.pc_args.specs.Asked.{asked_by_name, texts, argument_value};
 ghost use Rattle.pc_args.specs.Commands.{asked_by};
 ghost use Rattle.pc_args.specs.Line as line;
 ghost use Rattle.pc_args.specs.ReadingEnds.{ReadingEnds};
+ghost use Rattle.pc_args.specs.Rows.{line_of};
 
 use clap::error::ErrorKind;
 use clap::{Arg, ArgMatches, Error};
 use std::alloc::{AllocError, Global};
+
+// The subcommands in their order, each with its arguments.
+const SUBCOMMANDS: [(&str, &[&str]); 15] = [
+    ("check", &["SRC"]),
+    ("judge", &["SRC", "DERIV"]),
+    ("run", &["SRC", "SCHED"]),
+    ("show", &["SRC"]),
+    ("make", &["SEED", "SIZE"]),
+    ("swap", &["SRC", "SCHED", "PLACE"]),
+    ("trace", &["SRC", "SCHED"]),
+    ("sends", &["SRC"]),
+    ("upgrade", &["SRC", "DERIV"]),
+    ("schedule", &["SRC", "SEED"]),
+    ("play", &["SRC", "SEED"]),
+    ("outcomes", &["SRC", "COUNT"]),
+    ("places", &["SRC"]),
+    ("events", &["SRC", "SCHED"]),
+    ("explain", &["SRC"]),
+];
 
 /// What words ask for, with names and numbers as written.
 #[derive(Clone, Copy, Debug)]
@@ -148,25 +168,25 @@ fn make_bare<'a>(alloc: Global) -> clap::Command<'a>
         .subcommand_required(true)
 }
 
+// The command line with these subcommands: of each its name and its arguments.
+fn make_line<'a>(
+    alloc: Global,
+    rows: &[(&'a str, &'a [&'a str])],
+) -> Result<clap::Command<'a>, AllocError>
+    ensures { IfOk result (λ c. app_of c ≡ line_of rows.now) }
+{
+    let mut command = make_bare(alloc);
+    for row in rows {
+        command = with_leaf(command, alloc, row.0, row.1)?;
+    }
+    Ok(command)
+}
+
 // The whole command line, its words not yet read.
 fn make_rcap<'a>(alloc: Global) -> Result<clap::Command<'a>, AllocError>
     ensures { IfOk result (λ c. app_of c ≡ line.rcap) }
 {
-    let check = with_leaf(make_bare(alloc), alloc, "check", &["SRC"])?;
-    let judge = with_leaf(check, alloc, "judge", &["SRC", "DERIV"])?;
-    let run = with_leaf(judge, alloc, "run", &["SRC", "SCHED"])?;
-    let show = with_leaf(run, alloc, "show", &["SRC"])?;
-    let make = with_leaf(show, alloc, "make", &["SEED", "SIZE"])?;
-    let swap = with_leaf(make, alloc, "swap", &["SRC", "SCHED", "PLACE"])?;
-    let trace = with_leaf(swap, alloc, "trace", &["SRC", "SCHED"])?;
-    let sends = with_leaf(trace, alloc, "sends", &["SRC"])?;
-    let upgrade = with_leaf(sends, alloc, "upgrade", &["SRC", "DERIV"])?;
-    let schedule = with_leaf(upgrade, alloc, "schedule", &["SRC", "SEED"])?;
-    let play = with_leaf(schedule, alloc, "play", &["SRC", "SEED"])?;
-    let outcomes = with_leaf(play, alloc, "outcomes", &["SRC", "COUNT"])?;
-    let places = with_leaf(outcomes, alloc, "places", &["SRC"])?;
-    let events = with_leaf(places, alloc, "events", &["SRC", "SCHED"])?;
-    with_leaf(events, alloc, "explain", &["SRC"])
+    make_line(alloc, &SUBCOMMANDS)
 }
 
 // The matches of the words, or why clap refuses them.
