@@ -11,7 +11,9 @@
 //! - What `check` or `upgrade` writes, `judge` accepts (`written_derivations_are_accepted`,
 //!   `upgraded_derivations_are_accepted`).
 //! - The core of a source is formed (`cores_of_sources_are_formed`). If it has a derivation, it is safe
-//!   (`derivable_sources_are_safe`), and its waiting messages are isolated in depth (`derivable_sources_are_isolated`).
+//!   (`derivable_sources_are_safe`), its waiting messages are isolated in depth (`derivable_sources_are_isolated`), and
+//!   a compiler may rely on what is `val`, on single owners, on progress and on arrivals
+//!   (`derivable_sources_are_reliable`).
 //! - What `sends` reports is right about every run (`tables_tell_of_every_run`), and `play` has the status and the
 //!   output of `run` for the line that `schedule` writes (`plays_are_runs`).
 //!
