@@ -1,7 +1,7 @@
 -- Fields and slots; constructors, calls, messages and the end of a method.
 use Rattle.std.specs.{Prelude.{ℕ, Option, Some, None, slice_get, ◌-◌, Bool, false, ◌&&◌, List, [], ◌∷◌, length, nat_eq, nat_lt, codes, decimal, option_map, unwrap_or, if◌then◌else◌}, Str.bytes_eq, Option.{option_flatten, option_map_or}}
 use Rattle.pc_heap.specs.{Objects.next_address, declared.value.Value.Value, declared.value.Value.TheVariants.{At, Num, Truth, Text}}
-use Rattle.pc_core.specs.{CoreData.{field_named, CoreData, method_named}, declared.nodes.NodeKind.NodeKind, declared.declarations.Method.Method, declared.declarations.MethodKind.MethodKind}
+use Rattle.pc_core.specs.{CoreData.{field_named, CoreData, method_named}, declared.nodes.NodeKind.NodeKind, Kinds.{read_field, written_field, stored_slot, called_name}, declared.declarations.Method.Method, declared.declarations.MethodKind.MethodKind}
 use Rattle.pc_base.specs.Lists.{◌>>=◌}
 use Rattle.pc_semantics.specs.{declared.frames.Frame.Frame, Configurations.{Around, Move, Stuck, Goes, Writes, Makes, Spawns, Enters, Sends, Leaves, given, pushed, with_slot, slot_value, first_frame, push_value, pop, pop_arguments, none, value_entity, address_of, with_object, own_address, blank_object}}
 use Rattle.pc_core.specs.declared.nodes.NodeKind.TheVariants as node
@@ -12,26 +12,23 @@ use Rattle.pc_core.specs.declared.declarations.MethodKind.TheVariants as method
 
 -- Get: the origin is replaced by the field's value.
 abbrev pub get_task : CoreData → Around → Frame → NodeKind → Move
-get_task core around f (node.Field name) =
-    pop f λ v g. with_object around v λ a o. push_value g lack.Field (option_flatten (field_named core o.entity name >>= slice_get o.fields))
-get_task core around f k = Stuck lack.Value
+get_task core around f k =
+    given lack.Value (read_field k) λ name. pop f λ v g. with_object around v λ a o.
+    push_value g lack.Field (option_flatten (field_named core o.entity name >>= slice_get o.fields))
 
 -- Put: the origin and the value are replaced by the field's old value, or None; and the field is set.
 abbrev pub put_task : CoreData → Around → Frame → NodeKind → Move
-put_task core around f (node.SetField name) =
-    pop f λ v g. pop g λ w h. with_object around v λ a o.
+put_task core around f k =
+    given lack.Value (written_field k) λ name. pop f λ v g. pop g λ w h. with_object around v λ a o.
     given lack.Field (field_named core o.entity name) λ i.
     given lack.Field (slice_get o.fields i) λ old. Writes a i w (pushed h (unwrap_or old none))
-put_task core around f k = Stuck lack.Value
 
 -- Store: the value goes into the slot, and is replaced by the slot's old value, or None.
 abbrev pub store : ℕ → Value → Frame → Move
 store s v f = Goes (pushed (with_slot f s (Some v)) (unwrap_or (slot_value f s) none))
 
 abbrev pub store_task : Frame → NodeKind → Move
-store_task f (node.Define s) = pop f (store s)
-store_task f (node.Assign s) = pop f (store s)
-store_task f k = Stuck lack.Value
+store_task f k = given lack.Value (stored_slot k) λ s. pop f (store s)
 
 -- ---- constructors
 
@@ -89,10 +86,9 @@ invoke core around name this arguments f e =
 
 -- Invoke: the method is that of the receiver's own entity.
 abbrev pub invoke_task : CoreData → Around → Frame → List ℕ → NodeKind → Move
-invoke_task core around f cs (node.Call name) =
-    pop f λ this g. pop_arguments g (length cs - 1) λ arguments h.
+invoke_task core around f cs k =
+    given lack.Value (called_name k) λ name. pop f λ this g. pop_arguments g (length cs - 1) λ arguments h.
     given lack.Method (value_entity around.objects this) (invoke core around name this arguments h)
-invoke_task core around f cs k = Stuck lack.Value
 
 -- Return: the frame ends. A class's constructor returns its object, which is in the first slot.
 abbrev pub leave : Frame → MethodKind → Move

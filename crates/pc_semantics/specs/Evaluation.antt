@@ -3,56 +3,73 @@ use Rattle.std.specs.{Prelude.{ℕ, ◌+◌, ◌-◌, ◌*◌, ◌/◌, ◌%◌,
 use Rattle.pc_base.specs.Limits.{text_limit}
 use Rattle.pc_tree.specs.declared.kinds.Op.{Op}
 use Rattle.pc_heap.specs.{declared.value.Value.Value, declared.value.Value.TheVariants.{Num, Truth, Text, Prim, At}}
-use Rattle.pc_core.specs.declared.nodes.NodeKind.{NodeKind}
+use Rattle.pc_core.specs.{declared.kinds.Operation.Operation, declared.kinds.Connective.Connective, declared.nodes.NodeKind.NodeKind, Kinds.{operation, connective}}
 use Rattle.pc_semantics.specs.{declared.frames.Task.Task, declared.frames.Frame.Frame, Configurations.{Move, Stuck, Overflows, Goes, pushed, with_slot, slot_value, doing, given, push_value, pop, none}, Children.evaluations}
 use Rattle.pc_tree.specs.declared.kinds.Op.TheVariants as op
+use Rattle.pc_core.specs.declared.kinds.Connective.TheVariants as joins
+use Rattle.pc_core.specs.declared.kinds.Operation.TheVariants as applies
 use Rattle.pc_core.specs.declared.nodes.NodeKind.TheVariants as node
 use Rattle.pc_semantics.specs.declared.frames.Task.TheVariants as task
 use Rattle.pc_semantics.specs.declared.outcome.Lack.TheVariants as lack
 
 -- ---- Eval
 
--- All children are evaluated, and then this task is done.
-abbrev pub children_first : Frame → List ℕ → Task → Move
-children_first f children t = Goes (doing f (evaluations children ++ t ∷ []))
+-- How a node is evaluated: to a value; to that of a slot, which is left there or taken; all children and then a task; the
+-- first child and then tasks; or the items of a sequence, of which every value but the last is dropped.
+pub data Way : Type 0 where
+  Gives : Value → Way
+  Reads : ℕ → Way
+  Takes : ℕ → Way
+  AllThen : Task → Way
+  FirstThen : List Task → Way
+  Items : Way
 
--- The first child is evaluated, and then these tasks are done.
+-- The way of node n, by its kind.
+abbrev pub way_of : ℕ → NodeKind → Way
+way_of n (node.Number k) = Gives (Num k)
+way_of n (node.Truth b) = Gives (Truth b)
+way_of n (node.Text t) = Gives (Text t)
+way_of n (node.Prim e) = Gives (Prim e)
+way_of n node.This = Reads 0
+way_of n (node.Local s) = Reads s
+way_of n (node.Consume s) = Takes s
+way_of n (node.Field name) = AllThen (task.Get n)
+way_of n (node.SetField name) = AllThen (task.Put n)
+way_of n (node.Define s) = AllThen (task.Store n)
+way_of n (node.Assign s) = AllThen (task.Store n)
+way_of n (node.New m) = AllThen (task.Make n)
+way_of n (node.Spawn m) = AllThen (task.Spawn n)
+way_of n (node.Call name) = AllThen (task.Invoke n)
+way_of n (node.Binary o) = AllThen (task.Apply n)
+way_of n node.Not = AllThen (task.Apply n)
+way_of n (node.Same b) = AllThen (task.Apply n)
+way_of n node.And = FirstThen (task.Test n ∷ [])
+way_of n node.Or = FirstThen (task.Test n ∷ [])
+way_of n node.If = FirstThen (task.Branch n ∷ [])
+way_of n node.While = FirstThen (task.Loop n ∷ [])
+way_of n node.Seq = Items
+way_of n (node.Recover cap) = FirstThen []
+way_of n node.Body = FirstThen (task.Return ∷ [])
+
 abbrev pub first_then : Frame → List ℕ → List Task → Move
 first_then f [] ts = Stuck lack.Value
 first_then f (c ∷ children) ts = Goes (doing f (task.Eval c ∷ ts))
 
--- The items of a sequence: every value but the last is dropped.
 abbrev pub item_tasks : List ℕ → List Task
 item_tasks [] = []
 item_tasks (c ∷ []) = task.Eval c ∷ []
 item_tasks (c ∷ d ∷ children) = task.Eval c ∷ task.Discard ∷ item_tasks (d ∷ children)
 
--- Node n is evaluated, by its children and its kind.
+abbrev pub by_way : Frame → List ℕ → Way → Move
+by_way f cs (Gives v) = Goes (pushed f v)
+by_way f cs (Reads s) = push_value f lack.Slot (slot_value f s)
+by_way f cs (Takes s) = given lack.Slot (slot_value f s) λ v. Goes (pushed (with_slot f s None) v)
+by_way f cs (AllThen t) = Goes (doing f (evaluations cs ++ t ∷ []))
+by_way f cs (FirstThen ts) = first_then f cs ts
+by_way f cs Items = Goes (doing f (item_tasks cs))
+
 abbrev pub evaluate : Frame → ℕ → List ℕ → NodeKind → Move
-evaluate f n cs (node.Number k) = Goes (pushed f (Num k))
-evaluate f n cs (node.Truth b) = Goes (pushed f (Truth b))
-evaluate f n cs (node.Text t) = Goes (pushed f (Text t))
-evaluate f n cs (node.Prim e) = Goes (pushed f (Prim e))
-evaluate f n cs node.This = push_value f lack.Slot (slot_value f 0)
-evaluate f n cs (node.Local s) = push_value f lack.Slot (slot_value f s)
-evaluate f n cs (node.Consume s) = given lack.Slot (slot_value f s) λ v. Goes (pushed (with_slot f s None) v)
-evaluate f n cs (node.Field name) = children_first f cs (task.Get n)
-evaluate f n cs (node.SetField name) = children_first f cs (task.Put n)
-evaluate f n cs (node.Define s) = children_first f cs (task.Store n)
-evaluate f n cs (node.Assign s) = children_first f cs (task.Store n)
-evaluate f n cs (node.New m) = children_first f cs (task.Make n)
-evaluate f n cs (node.Spawn m) = children_first f cs (task.Spawn n)
-evaluate f n cs (node.Call name) = children_first f cs (task.Invoke n)
-evaluate f n cs (node.Binary o) = children_first f cs (task.Apply n)
-evaluate f n cs node.Not = children_first f cs (task.Apply n)
-evaluate f n cs (node.Same b) = children_first f cs (task.Apply n)
-evaluate f n cs node.And = first_then f cs (task.Test n ∷ [])
-evaluate f n cs node.Or = first_then f cs (task.Test n ∷ [])
-evaluate f n cs node.If = first_then f cs (task.Branch n ∷ [])
-evaluate f n cs node.While = first_then f cs (task.Loop n ∷ [])
-evaluate f n cs node.Seq = Goes (doing f (item_tasks cs))
-evaluate f n cs (node.Recover cap) = first_then f cs []
-evaluate f n cs node.Body = first_then f cs (task.Return ∷ [])
+evaluate f n cs k = by_way f cs (way_of n k)
 
 -- ---- Apply
 
@@ -108,11 +125,13 @@ truth next (Truth b) f = next b f
 truth next v f = Stuck lack.Value
 
 -- An operator; `is`, or `isnt` if the truth value is false; or `not`. The right operand is on top.
+abbrev pub applied : Frame → Operation → Move
+applied f (applies.Binary o) = pop f λ w g. pop g λ v h. binary h o v w
+applied f (applies.Same b) = pop f λ w g. pop g λ v h. Goes (pushed h (Truth (same_truth b (same_value v w))))
+applied f applies.Not = pop f (truth λ b g. Goes (pushed g (Truth (not b))))
+
 abbrev pub apply_task : Frame → NodeKind → Move
-apply_task f (node.Binary o) = pop f λ w g. pop g λ v h. binary h o v w
-apply_task f (node.Same b) = pop f λ w g. pop g λ v h. Goes (pushed h (Truth (same_truth b (same_value v w))))
-apply_task f node.Not = pop f (truth λ b g. Goes (pushed g (Truth (not b))))
-apply_task f k = Stuck lack.Value
+apply_task f k = given lack.Value (operation k) (applied f)
 
 -- ---- Test, Branch and Loop
 
@@ -120,19 +139,14 @@ abbrev pub right_side : Frame → List ℕ → Move
 right_side f (a ∷ b ∷ []) = Goes (doing f (task.Eval b ∷ []))
 right_side f cs = Stuck lack.Value
 
-abbrev pub test_and : List ℕ → Bool → Frame → Move
-test_and cs false f = Goes (pushed f (Truth false))
-test_and cs true f = right_side f cs
-
-abbrev pub test_or : List ℕ → Bool → Frame → Move
-test_or cs true f = Goes (pushed f (Truth true))
-test_or cs false f = right_side f cs
-
 -- The left side decides, or the right side is evaluated.
+abbrev pub decided : Connective → List ℕ → Bool → Frame → Move
+decided joins.And cs false f = Goes (pushed f (Truth false))
+decided joins.Or cs true f = Goes (pushed f (Truth true))
+decided o cs b f = right_side f cs
+
 abbrev pub test_task : Frame → List ℕ → NodeKind → Move
-test_task f cs node.And = pop f (truth (test_and cs))
-test_task f cs node.Or = pop f (truth (test_or cs))
-test_task f cs k = Stuck lack.Value
+test_task f cs k = given lack.Value (connective k) λ o. pop f (truth (decided o cs))
 
 -- One of the two branches is evaluated.
 abbrev pub branch : List ℕ → Bool → Frame → Move
