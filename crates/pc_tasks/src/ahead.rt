@@ -1,6 +1,7 @@
 //! What the first task of a frame is, before it is done, if it concerns the frame and the objects alone. The functions
 //! only read, and do not allocate.
 ghost use Rattle.std.specs.Prelude.{◌≡◌, ℕ, Bool, slice_get, List as Sequence};
+ghost use Rattle.pc_core.specs.declared.kinds.Connective.TheVariants as joins;
 ghost use Rattle.pc_semantics.specs.Ahead.{by_move};
 ghost use Rattle.pc_semantics.specs.Configurations.{pop, Goes};
 ghost use Rattle.pc_semantics.specs.Evaluation as evaluation;
@@ -13,7 +14,7 @@ ghost use Rattle.pc_tasks.specs.Fielded.{Fielded};
 ghost use Rattle.pc_tasks.specs.Inside.{IsInside, amid, first_move, relieved, seeing};
 
 use crate::operators::{is_too_long, of_numbers, of_truths};
-use pc_core::{Core, NodeKind};
+use pc_core::{Connective, Core, NodeKind, Operation};
 use pc_heap::{Heap, Text, Value};
 use pc_semantics::{Ahead, Frame, Task};
 use pc_tree::Op;
@@ -106,31 +107,9 @@ fn get(core: &Core, heap: &Heap, frame: &Frame, number: u32) -> Ahead
     let Some(node) = core.node_at(number) else {
         return Ahead::Lacks;
     };
-    match &node.kind {
-        NodeKind::Field(name) => read(core, heap, frame, *name),
-        NodeKind::Number(_)
-        | NodeKind::Truth(_)
-        | NodeKind::Text(_)
-        | NodeKind::Prim(_)
-        | NodeKind::This
-        | NodeKind::Local(_)
-        | NodeKind::Consume(_)
-        | NodeKind::SetField(_)
-        | NodeKind::Define(_)
-        | NodeKind::Assign(_)
-        | NodeKind::New(_)
-        | NodeKind::Spawn(_)
-        | NodeKind::Call(_)
-        | NodeKind::Binary(_)
-        | NodeKind::Not
-        | NodeKind::And
-        | NodeKind::Or
-        | NodeKind::Same(_)
-        | NodeKind::Seq
-        | NodeKind::If
-        | NodeKind::While
-        | NodeKind::Recover(_)
-        | NodeKind::Body => Ahead::Lacks,
+    match node.kind.read_field() {
+        Some(name) => read(core, heap, frame, name),
+        None => Ahead::Lacks,
     }
 }
 
@@ -163,31 +142,9 @@ fn put(core: &Core, heap: &Heap, frame: &Frame, number: u32) -> Ahead
     let Some(node) = core.node_at(number) else {
         return Ahead::Lacks;
     };
-    match &node.kind {
-        NodeKind::SetField(name) => write(core, heap, frame, *name),
-        NodeKind::Number(_)
-        | NodeKind::Truth(_)
-        | NodeKind::Text(_)
-        | NodeKind::Prim(_)
-        | NodeKind::This
-        | NodeKind::Local(_)
-        | NodeKind::Consume(_)
-        | NodeKind::Field(_)
-        | NodeKind::Define(_)
-        | NodeKind::Assign(_)
-        | NodeKind::New(_)
-        | NodeKind::Spawn(_)
-        | NodeKind::Call(_)
-        | NodeKind::Binary(_)
-        | NodeKind::Not
-        | NodeKind::And
-        | NodeKind::Or
-        | NodeKind::Same(_)
-        | NodeKind::Seq
-        | NodeKind::If
-        | NodeKind::While
-        | NodeKind::Recover(_)
-        | NodeKind::Body => Ahead::Lacks,
+    match node.kind.written_field() {
+        Some(name) => write(core, heap, frame, name),
+        None => Ahead::Lacks,
     }
 }
 
@@ -209,30 +166,9 @@ fn store(core: &Core, frame: &Frame, number: u32) -> Ahead
     let Some(node) = core.node_at(number) else {
         return Ahead::Lacks;
     };
-    match &node.kind {
-        NodeKind::Define(_) | NodeKind::Assign(_) => top(frame),
-        NodeKind::Number(_)
-        | NodeKind::Truth(_)
-        | NodeKind::Text(_)
-        | NodeKind::Prim(_)
-        | NodeKind::This
-        | NodeKind::Local(_)
-        | NodeKind::Consume(_)
-        | NodeKind::Field(_)
-        | NodeKind::SetField(_)
-        | NodeKind::New(_)
-        | NodeKind::Spawn(_)
-        | NodeKind::Call(_)
-        | NodeKind::Binary(_)
-        | NodeKind::Not
-        | NodeKind::And
-        | NodeKind::Or
-        | NodeKind::Same(_)
-        | NodeKind::Seq
-        | NodeKind::If
-        | NodeKind::While
-        | NodeKind::Recover(_)
-        | NodeKind::Body => Ahead::Lacks,
+    match node.kind.stored_slot() {
+        Some(_) => top(frame),
+        None => Ahead::Lacks,
     }
 }
 
@@ -329,31 +265,11 @@ fn apply(core: &Core, frame: &Frame, number: u32) -> Ahead
     let Some(node) = core.node_at(number) else {
         return Ahead::Lacks;
     };
-    match &node.kind {
-        NodeKind::Binary(op) => apply_binary(frame, *op),
-        NodeKind::Same(_) => apply_same(frame),
-        NodeKind::Not => apply_not(frame),
-        NodeKind::Number(_)
-        | NodeKind::Truth(_)
-        | NodeKind::Text(_)
-        | NodeKind::Prim(_)
-        | NodeKind::This
-        | NodeKind::Local(_)
-        | NodeKind::Consume(_)
-        | NodeKind::Field(_)
-        | NodeKind::SetField(_)
-        | NodeKind::Define(_)
-        | NodeKind::Assign(_)
-        | NodeKind::New(_)
-        | NodeKind::Spawn(_)
-        | NodeKind::Call(_)
-        | NodeKind::And
-        | NodeKind::Or
-        | NodeKind::Seq
-        | NodeKind::If
-        | NodeKind::While
-        | NodeKind::Recover(_)
-        | NodeKind::Body => Ahead::Lacks,
+    match node.kind.operation() {
+        Some(Operation::Binary(op)) => apply_binary(frame, op),
+        Some(Operation::Same(_)) => apply_same(frame),
+        Some(Operation::Not) => apply_not(frame),
+        None => Ahead::Lacks,
     }
 }
 
@@ -369,7 +285,7 @@ fn right_side(children: &[u32]) -> Ahead
 
 // The left side of an `and`.
 fn test_and(frame: &Frame, children: &[u32]) -> Ahead
-    ensures { result ≡ by_move (pop (relieved frame.now) (evaluation.truth (evaluation.test_and children.now))) }
+    ensures { result ≡ by_move (pop (relieved frame.now) (evaluation.truth (evaluation.decided joins.And children.now))) }
 {
     let Some(Value::Truth(truth)) = frame.stack.top() else {
         return Ahead::Lacks;
@@ -383,7 +299,7 @@ fn test_and(frame: &Frame, children: &[u32]) -> Ahead
 
 // The left side of an `or`.
 fn test_or(frame: &Frame, children: &[u32]) -> Ahead
-    ensures { result ≡ by_move (pop (relieved frame.now) (evaluation.truth (evaluation.test_or children.now))) }
+    ensures { result ≡ by_move (pop (relieved frame.now) (evaluation.truth (evaluation.decided joins.Or children.now))) }
 {
     let Some(Value::Truth(truth)) = frame.stack.top() else {
         return Ahead::Lacks;
@@ -402,31 +318,10 @@ fn test(core: &Core, frame: &Frame, number: u32) -> Ahead
     let Some(node) = core.node_at(number) else {
         return Ahead::Lacks;
     };
-    match &node.kind {
-        NodeKind::And => test_and(frame, node.children.as_slice()),
-        NodeKind::Or => test_or(frame, node.children.as_slice()),
-        NodeKind::Number(_)
-        | NodeKind::Truth(_)
-        | NodeKind::Text(_)
-        | NodeKind::Prim(_)
-        | NodeKind::This
-        | NodeKind::Local(_)
-        | NodeKind::Consume(_)
-        | NodeKind::Field(_)
-        | NodeKind::SetField(_)
-        | NodeKind::Define(_)
-        | NodeKind::Assign(_)
-        | NodeKind::New(_)
-        | NodeKind::Spawn(_)
-        | NodeKind::Call(_)
-        | NodeKind::Binary(_)
-        | NodeKind::Not
-        | NodeKind::Same(_)
-        | NodeKind::Seq
-        | NodeKind::If
-        | NodeKind::While
-        | NodeKind::Recover(_)
-        | NodeKind::Body => Ahead::Lacks,
+    match node.kind.connective() {
+        Some(Connective::And) => test_and(frame, node.children.as_slice()),
+        Some(Connective::Or) => test_or(frame, node.children.as_slice()),
+        None => Ahead::Lacks,
     }
 }
 

@@ -9,7 +9,7 @@ ghost use Rattle.pc_tasks.specs.Inside.{relieved, within};
 
 use crate::identity::{same_truth, same_value};
 use crate::operators::{Applied, binary, negated};
-use pc_core::{Core, NodeKind};
+use pc_core::{Core, Operation};
 use pc_heap::Value;
 use pc_semantics::{Frame, Lack, Outcome};
 use pc_tree::Op;
@@ -110,30 +110,10 @@ pub fn apply(
     let Some(node) = core.node_at(number) else {
         return Ok(Outcome::Lacks(Lack::Value));
     };
-    match &node.kind {
-        NodeKind::Binary(op) => apply_binary(alloc, frame, *op),
-        NodeKind::Same(wanted) => Ok(apply_same(frame, *wanted)),
-        NodeKind::Not => Ok(apply_not(frame)),
-        NodeKind::Number(_)
-        | NodeKind::Truth(_)
-        | NodeKind::Text(_)
-        | NodeKind::Prim(_)
-        | NodeKind::This
-        | NodeKind::Local(_)
-        | NodeKind::Consume(_)
-        | NodeKind::Field(_)
-        | NodeKind::SetField(_)
-        | NodeKind::Define(_)
-        | NodeKind::Assign(_)
-        | NodeKind::New(_)
-        | NodeKind::Spawn(_)
-        | NodeKind::Call(_)
-        | NodeKind::And
-        | NodeKind::Or
-        | NodeKind::Seq
-        | NodeKind::If
-        | NodeKind::While
-        | NodeKind::Recover(_)
-        | NodeKind::Body => Ok(Outcome::Lacks(Lack::Value)),
+    match node.kind.operation() {
+        Some(Operation::Binary(op)) => apply_binary(alloc, frame, op),
+        Some(Operation::Same(wanted)) => Ok(apply_same(frame, wanted)),
+        Some(Operation::Not) => Ok(apply_not(frame)),
+        None => Ok(Outcome::Lacks(Lack::Value)),
     }
 }

@@ -1,5 +1,6 @@
 //! Tasks that look at a truth value and choose what to do next.
 ghost use Rattle.std.specs.Prelude.{◌≡◌, ◌<◌, length, drop, slice_get, Some, IfOk, OnErr};
+ghost use Rattle.pc_core.specs.declared.kinds.Connective.TheVariants as joins;
 ghost use Rattle.pc_semantics.specs.Configurations.{Goes, with_stack, pop};
 ghost use Rattle.pc_semantics.specs.Evaluation as spec;
 ghost use Rattle.pc_semantics.specs.Parts as parts;
@@ -8,7 +9,7 @@ ghost use Rattle.pc_tasks.specs.Inside.{relieved, within};
 
 use crate::frames::go_on_with;
 use crate::values::none;
-use pc_core::{Core, NodeKind};
+use pc_core::{Connective, Core};
 use pc_heap::Value;
 use pc_semantics::{Frame, Lack, Outcome, Task};
 use std::alloc::AllocError;
@@ -16,7 +17,7 @@ use std::alloc::AllocError;
 // The left side of an `and`: if it is false, it is the value.
 fn test_and(frame: &mut Frame, children: &[u32]) -> Outcome
     requires { 0 < length frame.old.tasks }
-    ensures { within frame.old (pop (relieved frame.old) (spec.truth (spec.test_and children.now))) ≡ Some (result, frame.new) }
+    ensures { within frame.old (pop (relieved frame.old) (spec.truth (spec.decided joins.And children.now))) ≡ Some (result, frame.new) }
 {
     let Some(Value::Truth(truth)) = frame.stack.top() else {
         return Outcome::Lacks(Lack::Value);
@@ -31,7 +32,7 @@ fn test_and(frame: &mut Frame, children: &[u32]) -> Outcome
 // The left side of an `or`: if it is true, it is the value.
 fn test_or(frame: &mut Frame, children: &[u32]) -> Outcome
     requires { 0 < length frame.old.tasks }
-    ensures { within frame.old (pop (relieved frame.old) (spec.truth (spec.test_or children.now))) ≡ Some (result, frame.new) }
+    ensures { within frame.old (pop (relieved frame.old) (spec.truth (spec.decided joins.Or children.now))) ≡ Some (result, frame.new) }
 {
     let Some(Value::Truth(truth)) = frame.stack.top() else {
         return Outcome::Lacks(Lack::Value);
@@ -65,31 +66,10 @@ pub fn test(core: &Core, frame: &mut Frame, number: u32) -> Outcome
     let Some(node) = core.node_at(number) else {
         return Outcome::Lacks(Lack::Value);
     };
-    match &node.kind {
-        NodeKind::And => test_and(frame, node.children.as_slice()),
-        NodeKind::Or => test_or(frame, node.children.as_slice()),
-        NodeKind::Number(_)
-        | NodeKind::Truth(_)
-        | NodeKind::Text(_)
-        | NodeKind::Prim(_)
-        | NodeKind::This
-        | NodeKind::Local(_)
-        | NodeKind::Consume(_)
-        | NodeKind::Field(_)
-        | NodeKind::SetField(_)
-        | NodeKind::Define(_)
-        | NodeKind::Assign(_)
-        | NodeKind::New(_)
-        | NodeKind::Spawn(_)
-        | NodeKind::Call(_)
-        | NodeKind::Binary(_)
-        | NodeKind::Not
-        | NodeKind::Same(_)
-        | NodeKind::Seq
-        | NodeKind::If
-        | NodeKind::While
-        | NodeKind::Recover(_)
-        | NodeKind::Body => Outcome::Lacks(Lack::Value),
+    match node.kind.connective() {
+        Some(Connective::And) => test_and(frame, node.children.as_slice()),
+        Some(Connective::Or) => test_or(frame, node.children.as_slice()),
+        None => Outcome::Lacks(Lack::Value),
     }
 }
 

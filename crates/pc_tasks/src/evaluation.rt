@@ -49,7 +49,7 @@ fn take_slot(frame: &mut Frame, slot: u32) -> Result<Outcome, AllocError>
 #[inline(always)]
 fn children_first(frame: &mut Frame, children: &Children, then: Task) -> Result<Outcome, AllocError>
     requires { 0 < length frame.old.tasks }
-    ensures ok { IfOk result (λ o. within frame.old (spec.children_first (relieved frame.old) children.now then) ≡ Some (o, frame.new)) }
+    ensures ok { IfOk result (λ o. within frame.old (spec.by_way (relieved frame.old) children.now (spec.AllThen then)) ≡ Some (o, frame.new)) }
     ensures err { OnErr result (frame.new ≡ frame.old) }
 {
     let before = frame.tasks.replace_top(then);

@@ -7,7 +7,7 @@ ghost use Rattle.pc_semantics.specs.Parts.{at_node};
 ghost use Rattle.pc_tasks.specs.Inside.{seeing, relieved, within, ended};
 
 use crate::values::none;
-use pc_core::{Core, NodeKind};
+use pc_core::Core;
 use pc_heap::{Heap, Value};
 use pc_semantics::{Frame, Lack, Outcome};
 use std::alloc::AllocError;
@@ -49,31 +49,9 @@ pub fn get(core: &Core, heap: &Heap, frame: &mut Frame, number: u32) -> Result<O
     let Some(node) = core.node_at(number) else {
         return Ok(Outcome::Lacks(Lack::Value));
     };
-    match &node.kind {
-        NodeKind::Field(name) => read(core, heap, frame, *name),
-        NodeKind::Number(_)
-        | NodeKind::Truth(_)
-        | NodeKind::Text(_)
-        | NodeKind::Prim(_)
-        | NodeKind::This
-        | NodeKind::Local(_)
-        | NodeKind::Consume(_)
-        | NodeKind::SetField(_)
-        | NodeKind::Define(_)
-        | NodeKind::Assign(_)
-        | NodeKind::New(_)
-        | NodeKind::Spawn(_)
-        | NodeKind::Call(_)
-        | NodeKind::Binary(_)
-        | NodeKind::Not
-        | NodeKind::And
-        | NodeKind::Or
-        | NodeKind::Same(_)
-        | NodeKind::Seq
-        | NodeKind::If
-        | NodeKind::While
-        | NodeKind::Recover(_)
-        | NodeKind::Body => Ok(Outcome::Lacks(Lack::Value)),
+    match node.kind.read_field() {
+        Some(name) => read(core, heap, frame, name),
+        None => Ok(Outcome::Lacks(Lack::Value)),
     }
 }
 
@@ -110,30 +88,9 @@ pub fn store(core: &Core, frame: &mut Frame, number: u32) -> Result<Outcome, All
     let Some(node) = core.node_at(number) else {
         return Ok(Outcome::Lacks(Lack::Value));
     };
-    match &node.kind {
-        NodeKind::Define(slot) | NodeKind::Assign(slot) => store_in(frame, *slot),
-        NodeKind::Number(_)
-        | NodeKind::Truth(_)
-        | NodeKind::Text(_)
-        | NodeKind::Prim(_)
-        | NodeKind::This
-        | NodeKind::Local(_)
-        | NodeKind::Consume(_)
-        | NodeKind::Field(_)
-        | NodeKind::SetField(_)
-        | NodeKind::New(_)
-        | NodeKind::Spawn(_)
-        | NodeKind::Call(_)
-        | NodeKind::Binary(_)
-        | NodeKind::Not
-        | NodeKind::And
-        | NodeKind::Or
-        | NodeKind::Same(_)
-        | NodeKind::Seq
-        | NodeKind::If
-        | NodeKind::While
-        | NodeKind::Recover(_)
-        | NodeKind::Body => Ok(Outcome::Lacks(Lack::Value)),
+    match node.kind.stored_slot() {
+        Some(slot) => store_in(frame, slot),
+        None => Ok(Outcome::Lacks(Lack::Value)),
     }
 }
 
@@ -183,30 +140,8 @@ pub fn put(core: &Core, heap: &mut Heap, frame: &mut Frame, number: u32) -> Outc
     let Some(node) = core.node_at(number) else {
         return Outcome::Lacks(Lack::Value);
     };
-    match &node.kind {
-        NodeKind::SetField(name) => write(core, heap, frame, *name),
-        NodeKind::Number(_)
-        | NodeKind::Truth(_)
-        | NodeKind::Text(_)
-        | NodeKind::Prim(_)
-        | NodeKind::This
-        | NodeKind::Local(_)
-        | NodeKind::Consume(_)
-        | NodeKind::Field(_)
-        | NodeKind::Define(_)
-        | NodeKind::Assign(_)
-        | NodeKind::New(_)
-        | NodeKind::Spawn(_)
-        | NodeKind::Call(_)
-        | NodeKind::Binary(_)
-        | NodeKind::Not
-        | NodeKind::And
-        | NodeKind::Or
-        | NodeKind::Same(_)
-        | NodeKind::Seq
-        | NodeKind::If
-        | NodeKind::While
-        | NodeKind::Recover(_)
-        | NodeKind::Body => Outcome::Lacks(Lack::Value),
+    match node.kind.written_field() {
+        Some(name) => write(core, heap, frame, name),
+        None => Outcome::Lacks(Lack::Value),
     }
 }
