@@ -4,11 +4,14 @@ use Rattle.std.proofs.{Common.{inl, inr, ap, sym, subst, ◌∙◌}, lemmas.Opti
 use Rattle.pc_heap.specs.{declared.value.Address.Address, declared.value.Value.Value, declared.value.Value.TheVariants.{Num, Truth, Text, Prim, At}}
 use Rattle.pc_tree.specs.declared.kinds.Op.{Op}
 use Rattle.pc_tree.specs.declared.kinds.Op.TheVariants as op
-use Rattle.pc_core.specs.{CoreData.CoreData, declared.declarations.Method.Method, declared.declarations.MethodKind.MethodKind, declared.nodes.Node.Node, declared.nodes.NodeKind.NodeKind}
+use Rattle.pc_core.specs.{CoreData.CoreData, declared.declarations.Method.Method, declared.declarations.MethodKind.MethodKind, declared.kinds.Connective.Connective, declared.kinds.Operation.Operation, declared.nodes.Node.Node, declared.nodes.NodeKind.NodeKind, Kinds.{stored_slot, operation, connective}}
+use Rattle.pc_core.specs.declared.kinds.Connective.TheVariants as joins
+use Rattle.pc_core.specs.declared.kinds.Operation.TheVariants as applies
 use Rattle.pc_core.specs.declared.declarations.MethodKind.TheVariants as method
 use Rattle.pc_core.specs.declared.nodes.NodeKind.TheVariants as node
-use Rattle.pc_semantics.specs.{declared.frames.Frame.Frame, declared.frames.Task.Task, declared.outcome.Lack.Lack, Configurations.{Around, Move, Stuck, Overflows, Goes, Writes, Makes, Spawns, Enters, Sends, Leaves, with_stack, pushed, with_slot, doing, none, pop, popped, pop_arguments}, Parts.{value_or_none, with_top, with_popped, push_slot, take_slot, evaluate_node, push_or_lack, with_second_number, with_truth, with_text, negated, same_address, is_number, is_truth, is_text, is_primitive, is_object, compared, held, leave_object, return_task, at_node}, Children.evaluations, Evaluation.{first_then, evaluate, item_tasks, truth, apply_task, right_side, test_and, test_or, test_task, branch, loop_turn, of_numbers, of_truths, of_texts, binary, same_truth, same_value}, Calls.{store, store_task, leave}, Step.task_move}
+use Rattle.pc_semantics.specs.{declared.frames.Frame.Frame, declared.frames.Task.Task, declared.outcome.Lack.Lack, Configurations.{Around, Move, Stuck, Overflows, Goes, Writes, Makes, Spawns, Enters, Sends, Leaves, given, with_stack, pushed, with_slot, doing, none, pop, popped, pop_arguments}, Parts.{value_or_none, with_top, with_popped, push_slot, take_slot, evaluate_node, push_or_lack, with_second_number, with_truth, with_text, negated, same_address, is_number, is_truth, is_text, is_primitive, is_object, compared, held, leave_object, return_task, at_node}, Children.evaluations, Evaluation.{Way, Gives, Reads, Takes, AllThen, FirstThen, Items, way_of, first_then, item_tasks, by_way, truth, applied, apply_task, right_side, decided, test_task, branch, loop_turn, of_numbers, of_truths, of_texts, binary, same_truth, same_value}, Calls.{store, store_task, leave}, Step.task_move}
 use Rattle.pc_semantics.specs.declared.frames.Task.TheVariants as task
+use Rattle.pc_semantics.specs.declared.outcome.Lack.TheVariants as lack
 use Rattle.pc_base.specs.Limits.{text_limit}
 use Rattle.pc_events.proofs.{Like.{AddressLike, Like, SlotLike, Likes, FrameLike, FoundLike, slots_get, slots_set, MoveLike}, Plain.Blind}
 
@@ -74,9 +77,12 @@ module _ (names : List ℕ) (next : ℕ) where
       → ((vs ws : List Value) (a b : Frame) → Likes names vs ws → FrameLike names a b → M (x vs a) (y ws b)) → M (pop_arguments f n x) (pop_arguments g n y)
   arguments_like n f g k x y h = with_popped_like f g k (popped n f.stack []) (popped n g.stack []) (popped_like n f.stack g.stack [] [] k.stack tt) x y h
 
+  given_like : {A : Type 0} (o : Option A) (x y : A → Move) → ((z : A) → M (x z) (y z)) → M (given lack.Value o x) (given lack.Value o y)
+  given_like None x y h = tt
+  given_like (Some z) x y h = h z
+
   pub nodes_like : (o : Option Node) (x y : Node → Move) → ((z : Node) → M (x z) (y z)) → M (at_node o x) (at_node o y)
-  nodes_like None x y h = tt
-  nodes_like (Some z) x y h = h z
+  nodes_like o x y h = given_like o x y h
 
   -- ---- evaluations
 
@@ -98,35 +104,29 @@ module _ (names : List ℕ) (next : ℕ) where
   first_like f g [] ts k = tt
   first_like f g (c ∷ cs) ts k = doing_like f g (task.Eval c ∷ ts) k
 
-  evaluate_like : (f g : Frame) (n : ℕ) (cs : List ℕ) (kind : NodeKind) → FrameLike names f g → M (evaluate f n cs kind) (evaluate g n cs kind)
-  evaluate_like f g n cs (node.Number x) k = pushed_like f g (Num x) (Num x) k refl
-  evaluate_like f g n cs (node.Truth b) k = pushed_like f g (Truth b) (Truth b) k refl
-  evaluate_like f g n cs (node.Text t) k = pushed_like f g (Text t) (Text t) k refl
-  evaluate_like f g n cs (node.Prim e) k = pushed_like f g (Prim e) (Prim e) k refl
-  evaluate_like f g n cs node.This k = push_like f g k (slice_get f.slots 0) (slice_get g.slots 0) (slots_get names f.slots g.slots 0 k.slots)
-  evaluate_like f g n cs (node.Local s) k = push_like f g k (slice_get f.slots s) (slice_get g.slots s) (slots_get names f.slots g.slots s k.slots)
-  evaluate_like f g n cs (node.Consume s) k = take_like f g s k (slice_get f.slots s) (slice_get g.slots s) (slots_get names f.slots g.slots s k.slots)
-  evaluate_like f g n cs (node.Field name) k = doing_like f g (evaluations cs ++ task.Get n ∷ []) k
-  evaluate_like f g n cs (node.SetField name) k = doing_like f g (evaluations cs ++ task.Put n ∷ []) k
-  evaluate_like f g n cs (node.Define s) k = doing_like f g (evaluations cs ++ task.Store n ∷ []) k
-  evaluate_like f g n cs (node.Assign s) k = doing_like f g (evaluations cs ++ task.Store n ∷ []) k
-  evaluate_like f g n cs (node.New m) k = doing_like f g (evaluations cs ++ task.Make n ∷ []) k
-  evaluate_like f g n cs (node.Spawn m) k = doing_like f g (evaluations cs ++ task.Spawn n ∷ []) k
-  evaluate_like f g n cs (node.Call name) k = doing_like f g (evaluations cs ++ task.Invoke n ∷ []) k
-  evaluate_like f g n cs (node.Binary o) k = doing_like f g (evaluations cs ++ task.Apply n ∷ []) k
-  evaluate_like f g n cs node.Not k = doing_like f g (evaluations cs ++ task.Apply n ∷ []) k
-  evaluate_like f g n cs (node.Same b) k = doing_like f g (evaluations cs ++ task.Apply n ∷ []) k
-  evaluate_like f g n cs node.And k = first_like f g cs (task.Test n ∷ []) k
-  evaluate_like f g n cs node.Or k = first_like f g cs (task.Test n ∷ []) k
-  evaluate_like f g n cs node.If k = first_like f g cs (task.Branch n ∷ []) k
-  evaluate_like f g n cs node.While k = first_like f g cs (task.Loop n ∷ []) k
-  evaluate_like f g n cs node.Seq k = doing_like f g (item_tasks cs) k
-  evaluate_like f g n cs (node.Recover cap) k = first_like f g cs [] k
-  evaluate_like f g n cs node.Body k = first_like f g cs (task.Return ∷ []) k
+  -- A value that a kind gives is no object.
+  abbrev GivesItself : Way → Type 0
+  GivesItself (Gives v) = Like names v v
+  GivesItself w = ⊤
+
+  gives_itself : (n : ℕ) (kind : NodeKind) → GivesItself (way_of n kind)
+  gives_itself n (node.Number x) = refl
+  gives_itself n (node.Truth b) = refl
+  gives_itself n (node.Text t) = refl
+  gives_itself n (node.Prim e) = refl
+  gives_itself n kind = tt
+
+  way_like : (f g : Frame) (cs : List ℕ) (w : Way) → GivesItself w → FrameLike names f g → M (by_way f cs w) (by_way g cs w)
+  way_like f g cs (Gives v) l k = pushed_like f g v v k l
+  way_like f g cs (Reads s) l k = push_like f g k (slice_get f.slots s) (slice_get g.slots s) (slots_get names f.slots g.slots s k.slots)
+  way_like f g cs (Takes s) l k = take_like f g s k (slice_get f.slots s) (slice_get g.slots s) (slots_get names f.slots g.slots s k.slots)
+  way_like f g cs (AllThen t) l k = doing_like f g (evaluations cs ++ t ∷ []) k
+  way_like f g cs (FirstThen ts) l k = first_like f g cs ts k
+  way_like f g cs Items l k = doing_like f g (item_tasks cs) k
 
   node_like : (f g : Frame) (n : ℕ) (o : Option Node) → FrameLike names f g → M (evaluate_node f n o) (evaluate_node g n o)
   node_like f g n None k = tt
-  node_like f g n (Some x) k = evaluate_like f g n x.children x.kind k
+  node_like f g n (Some x) k = way_like f g x.children (way_of n x.kind) (gives_itself n x.kind) k
 
   -- ---- operators
 
@@ -201,18 +201,15 @@ module _ (names : List ℕ) (next : ℕ) where
   right_like f g k (a ∷ b ∷ []) = doing_like f g (task.Eval b ∷ []) k
   right_like f g k cs = tt
 
-  and_like : (cs : List ℕ) (b : Bool) (f g : Frame) → FrameLike names f g → M (test_and cs b f) (test_and cs b g)
-  and_like cs false f g k = pushed_like f g (Truth false) (Truth false) k refl
-  and_like cs true f g k = right_like f g k cs
-
-  or_like : (cs : List ℕ) (b : Bool) (f g : Frame) → FrameLike names f g → M (test_or cs b f) (test_or cs b g)
-  or_like cs true f g k = pushed_like f g (Truth true) (Truth true) k refl
-  or_like cs false f g k = right_like f g k cs
+  decided_like : (o : Connective) (cs : List ℕ) (b : Bool) (f g : Frame) → FrameLike names f g → M (decided o cs b f) (decided o cs b g)
+  decided_like joins.And cs false f g k = pushed_like f g (Truth false) (Truth false) k refl
+  decided_like joins.And cs true f g k = right_like f g k cs
+  decided_like joins.Or cs true f g k = pushed_like f g (Truth true) (Truth true) k refl
+  decided_like joins.Or cs false f g k = right_like f g k cs
 
   test_like : (f g : Frame) (cs : List ℕ) (kind : NodeKind) → FrameLike names f g → M (test_task f cs kind) (test_task g cs kind)
-  test_like f g cs node.And k = pop_like f g k _ _ (λ v w a b l m. truth_like (test_and cs) (test_and cs) (and_like cs) v w l a b m)
-  test_like f g cs node.Or k = pop_like f g k _ _ (λ v w a b l m. truth_like (test_or cs) (test_or cs) (or_like cs) v w l a b m)
-  test_like f g cs kind k = tt
+  test_like f g cs kind k =
+      given_like (connective kind) _ _ (λ o. pop_like f g k _ _ (λ v w a b l m. truth_like (decided o cs) (decided o cs) (decided_like o cs) v w l a b m))
 
   branch_like : (cs : List ℕ) (b : Bool) (f g : Frame) → FrameLike names f g → M (branch cs b f) (branch cs b g)
   branch_like (c ∷ a ∷ b ∷ []) true f g k = doing_like f g (task.Eval a ∷ []) k
@@ -240,9 +237,7 @@ module _ (names : List ℕ) (next : ℕ) where
       pushed_like (with_slot f s (Some v)) (with_slot g s (Some w)) _ _ (slot_like f g s (Some v) (Some w) k l) (held_like (slice_get f.slots s) (slice_get g.slots s) (slots_get names f.slots g.slots s k.slots))
 
   store_like : (f g : Frame) (kind : NodeKind) → FrameLike names f g → M (store_task f kind) (store_task g kind)
-  store_like f g (node.Define s) k = pop_like f g k (store s) (store s) (λ v w a b l m. stored_like s v w a b l m)
-  store_like f g (node.Assign s) k = pop_like f g k (store s) (store s) (λ v w a b l m. stored_like s v w a b l m)
-  store_like f g kind k = tt
+  store_like f g kind k = given_like (stored_slot kind) _ _ (λ s. pop_like f g k (store s) (store s) (λ v w a b l m. stored_like s v w a b l m))
 
   object_like : (o p : Option (Option Value)) → FoundLike names o p → M (leave_object o) (leave_object p)
   object_like None p l = tt
@@ -314,13 +309,15 @@ module _ (names : List ℕ) (next : ℕ) where
     compared_like f g k wanted v x w y l m =
         pushed_like f g _ _ k (ap (λ (b : Bool). Truth (same_truth wanted b)) (sym (same_like v x w y l m)))
 
-    apply_like : (f g : Frame) (kind : NodeKind) → FrameLike names f g → M (apply_task f kind) (apply_task g kind)
-    apply_like f g (node.Binary o) k = pop_like f g k _ _ (λ w y a b l m. pop_like a b m _ _ (λ v x c d n p. binary_like c d p o v x w y n l))
-    apply_like f g (node.Same z) k =
+    applied_like : (f g : Frame) (o : Operation) → FrameLike names f g → M (applied f o) (applied g o)
+    applied_like f g (applies.Binary o) k = pop_like f g k _ _ (λ w y a b l m. pop_like a b m _ _ (λ v x c d n p. binary_like c d p o v x w y n l))
+    applied_like f g (applies.Same z) k =
         let same = λ (w : Value) (a : Frame). pop a (λ v c. compared c z v w) in
         pop_like f g k same same (λ w y a b l m. pop_like a b m (λ v c. compared c z v w) (λ x d. compared d z x y) (λ v x c d n p. compared_like c d p z v x w y n l))
-    apply_like f g node.Not k = pop_like f g k _ _ (λ v w a b l m. negated_like a b m v w l)
-    apply_like f g kind k = tt
+    applied_like f g applies.Not k = pop_like f g k _ _ (λ v w a b l m. negated_like a b m v w l)
+
+    apply_like : (f g : Frame) (kind : NodeKind) → FrameLike names f g → M (apply_task f kind) (apply_task g kind)
+    apply_like f g kind k = given_like (operation kind) _ _ (λ o. applied_like f g o k)
 
     -- ---- every task that sees nothing besides its frame
 

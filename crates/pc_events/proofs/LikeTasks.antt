@@ -3,11 +3,11 @@ use Rattle.std.specs.{Prelude.{◌≡◌, ◌<◌, ℕ, suc, ◌-◌, ◌&&◌, 
 use Rattle.std.proofs.{Common.{ap, sym, subst, ◌∙◌}, lemmas.Option.same_Some, lemmas.Bool.{and_parts, lt-ltb}}
 use Rattle.pc_base.proofs.Gets.{get_behind}
 use Rattle.pc_heap.specs.{Objects.{ObjectMap, class_at, made_by, next_address, Object}, Parts.{class_in, field_in}, Fields.field_at, declared.value.Address.Address, declared.value.Value.Value, declared.value.Value.TheVariants.{Num, Truth, Text, Prim, At}}
-use Rattle.pc_core.specs.{CoreData.{field_named, method_named, CoreData}, declared.declarations.Method.Method, declared.declarations.MethodKind.MethodKind, declared.nodes.Node.Node, declared.nodes.NodeKind.NodeKind}
+use Rattle.pc_core.specs.{CoreData.{field_named, method_named, CoreData}, declared.declarations.Method.Method, declared.declarations.MethodKind.MethodKind, declared.nodes.Node.Node, declared.nodes.NodeKind.NodeKind, Kinds.{read_field, written_field}}
 use Rattle.pc_base.specs.Lists.{◌>>=◌}
 use Rattle.pc_core.specs.declared.declarations.MethodKind.TheVariants as method
 use Rattle.pc_core.specs.declared.nodes.NodeKind.TheVariants as node
-use Rattle.pc_semantics.specs.{declared.access.Access.Access, declared.frames.Frame.Frame, declared.frames.Task.Task, Configurations.{blank_object, own_address, Around, Move, Stuck, with_stack, none, pop, value_entity, first_frame}, Parts.{number_of_fields, with_top, get_value, get_field, get_of, get_from, put_value, put_field, put_of, put_into, begin_new, make_of, spawn_of, enter, send, push_text, invoke_found, invoke_method, invoke_on, at_node}, Calls.{get_task, put_task, counted, make_task, spawn_task, invoke_kind, string_of, is_string, text_of, invoke_task}, Step.task_move, Safety.{name_read, name_written, touched_name}}
+use Rattle.pc_semantics.specs.{declared.access.Access.Access, declared.frames.Frame.Frame, declared.frames.Task.Task, Configurations.{blank_object, own_address, Around, Move, Stuck, with_stack, none, pop, value_entity, first_frame}, Parts.{number_of_fields, with_top, get_value, get_field, get_of, get_from, put_value, put_field, put_of, put_into, begin_new, make_of, spawn_of, enter, send, push_text, invoke_found, invoke_method, invoke_on, at_node}, Calls.{get_task, put_task, counted, make_task, spawn_task, invoke_kind, string_of, is_string, text_of, invoke_task}, Step.task_move, Safety.touched_name}
 use Rattle.pc_semantics.specs.declared.frames.Task.TheVariants as task
 use Rattle.pc_semantics.specs.declared.outcome.Lack.TheVariants as lack
 use Rattle.pc_events.proofs.{Right.{touch, touch_by}, Like.{AddressLike, Like, Likes, SlotsLike, FrameLike, FoundLike, ObjectLike, empty_slots, likes_length, first_slots_like, frame_more, MoveLike}, LikeBasic.{left_stuck, stack_like, pushed_like, top_like, pop_like, arguments_like, nodes_like, held_like, blind_like}}
@@ -45,9 +45,9 @@ module _ (core : CoreData) (names : List ℕ) (h h2 : ObjectMap) (i i2 n n2 : �
   set_like f g k a b l j v w m (Some o) None q = absurd q
   set_like f g k a b l j v w m (Some o) (Some p) q = (l, refl, m, pushed_like names n f g _ _ k (held_like names n (Some o) (Some p) q))
 
-  read_field : (f g : Frame) → FrameLike names f g → (o p : Object) (q : Option ℕ) → ((j : ℕ) → q ≡ Some j → FoundLike names (slice_get o.fields j) (slice_get p.fields j)) → M (get_field f o q) (get_field g p q)
-  read_field f g k o p None h = tt
-  read_field f g k o p (Some j) h = value_like f g k (slice_get o.fields j) (slice_get p.fields j) (h j refl)
+  field_like : (f g : Frame) → FrameLike names f g → (o p : Object) (q : Option ℕ) → ((j : ℕ) → q ≡ Some j → FoundLike names (slice_get o.fields j) (slice_get p.fields j)) → M (get_field f o q) (get_field g p q)
+  field_like f g k o p None h = tt
+  field_like f g k o p (Some j) h = value_like f g k (slice_get o.fields j) (slice_get p.fields j) (h j refl)
 
   set_field : (f g : Frame) → FrameLike names f g → (a b : Address) → AddressLike names a b → (v w : Value) → Like names v w → (o p : Object) (q : Option ℕ) → ((j : ℕ) → q ≡ Some j → FoundLike names (slice_get o.fields j) (slice_get p.fields j)) → M (put_field f a o v q) (put_field g b p w q)
   set_field f g k a b l v w m o p None h = tt
@@ -74,7 +74,7 @@ module _ (core : CoreData) (names : List ℕ) (h h2 : ObjectMap) (i i2 n n2 : �
       read_object f g k (Some o) None e q = left_stuck names n _ _
       read_object f g k (Some o) (Some p) e q =
           subst (λ (z : ℕ). M (get_field f o (field_named core z name)) (get_field g p (field_named core p.entity name))) (sym (entities o p e q))
-          (read_field f g k o p (field_named core p.entity name) (λ j s. found o p e q j s))
+          (field_like f g k o p (field_named core p.entity name) (λ j s. found o p e q j s))
 
       set_object : (f g : Frame) → FrameLike names f g → (v w : Value) → Like names v w → (o p : Option Object) → get h a ≡ o → get h2 b ≡ p → M (put_of core f name a v o) (put_of core g name b w p)
       set_object f g k v w m None p e q = tt
@@ -112,12 +112,12 @@ module _ (core : CoreData) (names : List ℕ) (h h2 : ObjectMap) (i i2 n n2 : �
 
   get_like : (k : ℕ) (f g : Frame) (x : Node) → slice_get core.nodes k ≡ Some x → (kind : NodeKind) → x.kind ≡ kind → AroundLike g.stack (task.Get k) → FrameLike names f g → M (get_task core one f kind) (get_task core two g kind)
   get_like k f g x e (node.Field name) q r l =
-      get_top (task.Get k) name false (ap (λ (z : Option Node). z >>= (λ x. name_read x.kind >>= (λ name. Some (name, false)))) e ∙ ap (λ (z : NodeKind). name_read z >>= (λ name. Some (name, false))) q) f.stack g.stack f g l.stack r l
+      get_top (task.Get k) name false (ap (λ (z : Option Node). z >>= (λ x. read_field x.kind >>= (λ name. Some (name, false)))) e ∙ ap (λ (z : NodeKind). read_field z >>= (λ name. Some (name, false))) q) f.stack g.stack f g l.stack r l
   get_like k f g x e kind q r l = tt
 
   put_like : (k : ℕ) (f g : Frame) (x : Node) → slice_get core.nodes k ≡ Some x → (kind : NodeKind) → x.kind ≡ kind → AroundLike g.stack (task.Put k) → FrameLike names f g → M (put_task core one f kind) (put_task core two g kind)
   put_like k f g x e (node.SetField name) q r l =
-      put_top (task.Put k) name true (ap (λ (z : Option Node). z >>= (λ x. name_written x.kind >>= (λ name. Some (name, true)))) e ∙ ap (λ (z : NodeKind). name_written z >>= (λ name. Some (name, true))) q) f.stack g.stack f g l.stack r l
+      put_top (task.Put k) name true (ap (λ (z : Option Node). z >>= (λ x. written_field x.kind >>= (λ name. Some (name, true)))) e ∙ ap (λ (z : NodeKind). written_field z >>= (λ name. Some (name, true))) q) f.stack g.stack f g l.stack r l
   put_like k f g x e kind q r l = tt
 
   get_node : (k : ℕ) (f g : Frame) (o : Option Node) → slice_get core.nodes k ≡ o → AroundLike g.stack (task.Get k) → FrameLike names f g → M (at_node o (λ x. get_task core one f x.kind)) (at_node o (λ x. get_task core two g x.kind))

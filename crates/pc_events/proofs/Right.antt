@@ -3,11 +3,11 @@ use Rattle.std.specs.{Prelude.{◌≡◌, ◌<◌, ◌&&◌, ℕ, ◌-◌, Bool,
 use Rattle.std.proofs.{Common.{ap, ◌∙◌}, lemmas.Bool.{and_parts, ltb-true}}
 use Rattle.pc_base.proofs.Gets.{get_below}
 use Rattle.pc_heap.specs.{Objects.{ObjectMap, class_at, next_address, Object}, Parts.class_in, declared.value.Address.Address, declared.value.Value.Value, declared.value.Value.TheVariants.At}
-use Rattle.pc_core.specs.{CoreData.{field_named, method_named, CoreData}, declared.declarations.Method.Method, declared.declarations.MethodKind.MethodKind, declared.nodes.Node.Node, declared.nodes.NodeKind.NodeKind}
+use Rattle.pc_core.specs.{CoreData.{field_named, method_named, CoreData}, declared.declarations.Method.Method, declared.declarations.MethodKind.MethodKind, declared.nodes.Node.Node, declared.nodes.NodeKind.NodeKind, Kinds.written_field}
 use Rattle.pc_base.specs.Lists.{◌>>=◌}
 use Rattle.pc_core.specs.declared.declarations.MethodKind.TheVariants as method
 use Rattle.pc_core.specs.declared.nodes.NodeKind.TheVariants as node
-use Rattle.pc_semantics.specs.{declared.access.Access.Access, declared.frames.Frame.Frame, declared.frames.Task.Task, Configurations.{blank_object, Around, Move, Stuck, Overflows, Goes, Writes, Makes, Spawns, Enters, Sends, Leaves, with_stack, pop, popped, pop_arguments, value_entity, address_of}, Parts.{with_top, get_value, get_field, get_of, get_from, put_value, put_field, put_of, put_into, begin_new, make_of, spawn_of, enter, send, push_text, invoke_found, invoke_method, invoke_on, at_node}, Calls.{get_task, put_task, make_task, spawn_task, invoke_kind, is_string, text_of, invoke_task}, Step.task_move, Safety.{name_written, touched_name}}
+use Rattle.pc_semantics.specs.{declared.access.Access.Access, declared.frames.Frame.Frame, declared.frames.Task.Task, Configurations.{blank_object, Around, Move, Stuck, Overflows, Goes, Writes, Makes, Spawns, Enters, Sends, Leaves, with_stack, pop, popped, pop_arguments, value_entity, address_of}, Parts.{with_top, get_value, get_field, get_of, get_from, put_value, put_field, put_of, put_into, begin_new, make_of, spawn_of, enter, send, push_text, invoke_found, invoke_method, invoke_on, at_node}, Calls.{get_task, put_task, make_task, spawn_task, invoke_kind, is_string, text_of, invoke_task}, Step.task_move, Safety.touched_name}
 use Rattle.pc_semantics.specs.declared.frames.Task.TheVariants as task
 use Rattle.pc_events.proofs.Plain.{Plain, top_all, arguments_all, node_all, blind_plain}
 
@@ -176,7 +176,7 @@ module _ (core : CoreData) (h : ObjectMap) (i n : ℕ) (k : ℕ) where
 
   put_right : (f : Frame) (x : Node) → slice_get core.nodes k ≡ Some x → (kind : NodeKind) → x.kind ≡ kind → Right core h i n f.stack (task.Put k) (put_task core (record { objects = h; actor = i; actors = n }) f kind)
   put_right f x e (node.SetField name) s =
-      first_right name f.stack f (ap (λ (z : Option Node). z >>= (λ x. name_written x.kind >>= (λ name. Some (name, true)))) e ∙ ap (λ (z : NodeKind). name_written z >>= (λ name. Some (name, true))) s)
+      first_right name f.stack f (ap (λ (z : Option Node). z >>= (λ x. written_field x.kind >>= (λ name. Some (name, true)))) e ∙ ap (λ (z : NodeKind). written_field z >>= (λ name. Some (name, true))) s)
   put_right f x e kind s = tt
 
   put_node_right : (f : Frame) (o : Option Node) → slice_get core.nodes k ≡ o → Right core h i n f.stack (task.Put k) (at_node o (λ x. put_task core (record { objects = h; actor = i; actors = n }) f x.kind))
