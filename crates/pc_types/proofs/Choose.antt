@@ -4,9 +4,10 @@ use Rattle.std.proofs.Common.{inl, ap, sym, subst, ◌∙◌, arith}
 use Rattle.pc_heap.specs.{declared.value.Value.Value, declared.value.Value.TheVariants.Truth}
 use Rattle.pc_caps.specs.declared.capability.Form.TheVariants as form
 use Rattle.pc_core.specs.{declared.nodes.Node.Node, declared.nodes.NodeKind.NodeKind, CoreData.CoreData, Nodes.HasArity}
+use Rattle.pc_core.specs.declared.kinds.Connective.TheVariants as joins
 use Rattle.pc_core.specs.declared.nodes.NodeKind.TheVariants as nodes
 use Rattle.pc_ann.specs.declared.annotation.Ann.{Ann}
-use Rattle.pc_semantics.specs.{declared.frames.Frame.Frame, declared.frames.Task.Task, Configurations.{Around, Move, Goes, with_stack, pushed, none}, Parts.{with_top, at_node, branch_task, loop_task}, Evaluation.{truth, right_side, test_and, test_or, test_task, branch, loop_turn}}
+use Rattle.pc_semantics.specs.{declared.frames.Frame.Frame, declared.frames.Task.Task, Configurations.{Around, Move, Goes, with_stack, pushed, none}, Parts.{with_top, at_node, branch_task, loop_task}, Evaluation.{truth, right_side, decided, test_task, branch, loop_turn}}
 use Rattle.pc_semantics.specs.declared.frames.Task.TheVariants as task
 use Rattle.pc_valid.specs.Words.{Ty}
 use Rattle.pc_rules.specs.Fields.{is_this}
@@ -50,17 +51,17 @@ module _ (core : CoreData) (ann : Ann) (needs : Needs core ann) (around : Around
     undecided_ok : (t : TopTruth e.below) → MoveOk core ann around fs (right_side (with_stack f t.rest) e.node.children)
     undecided_ok t = subst (λ (cs : List ℕ). MoveOk core ann around fs (right_side (with_stack f t.rest) cs)) (sym e.children) (goes_on e.below t.rest e.right f.tasks t.ok e.undecided)
 
-    and_ok : (b : Bool) (t : TopTruth e.below) → MoveOk core ann around fs (test_and e.node.children b (with_stack f t.rest))
+    and_ok : (b : Bool) (t : TopTruth e.below) → MoveOk core ann around fs (decided joins.And e.node.children b (with_stack f t.rest))
     and_ok false t = decided_ok false t
     and_ok true t = undecided_ok t
 
-    or_ok : (b : Bool) (t : TopTruth e.below) → MoveOk core ann around fs (test_or e.node.children b (with_stack f t.rest))
+    or_ok : (b : Bool) (t : TopTruth e.below) → MoveOk core ann around fs (decided joins.Or e.node.children b (with_stack f t.rest))
     or_ok true t = decided_ok true t
     or_ok false t = undecided_ok t
 
     test_kind : (k : NodeKind) → is_lazy k ≡ true → MoveOk core ann around fs (test_task f e.node.children k)
-    test_kind nodes.And h = let t = top_truth e.below e.top in by_truth e.below (test_and e.node.children) t (and_ok t.value t)
-    test_kind nodes.Or h = let t = top_truth e.below e.top in by_truth e.below (test_or e.node.children) t (or_ok t.value t)
+    test_kind nodes.And h = let t = top_truth e.below e.top in by_truth e.below (decided joins.And e.node.children) t (and_ok t.value t)
+    test_kind nodes.Or h = let t = top_truth e.below e.top in by_truth e.below (decided joins.Or e.node.children) t (or_ok t.value t)
     test_kind k h = absurd (false_true h)
 
     test_ok : MoveOk core ann around fs (at_node (slice_get core.nodes n) (λ x. test_task f x.children x.kind))

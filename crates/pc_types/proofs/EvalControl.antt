@@ -12,7 +12,7 @@ use Rattle.pc_base.specs.Lists.{Each}
 use Rattle.pc_ann.specs.{declared.annotation.Note.Note, declared.annotation.Ann.Ann}
 use Rattle.pc_masks.specs.{Masks.meet, MaskLaws.{meet_bits, within_bits}}
 use Rattle.pc_sub.specs.Computed.{is_sub}
-use Rattle.pc_semantics.specs.{declared.frames.Frame.Frame, declared.frames.Task.Task, Configurations.{Around, Goes, doing}, Children.evaluations, Evaluation.{children_first, first_then, item_tasks}}
+use Rattle.pc_semantics.specs.{declared.frames.Frame.Frame, declared.frames.Task.Task, Configurations.{Around, Goes, doing}, Children.evaluations, Evaluation.{AllThen, by_way, first_then, item_tasks}}
 use Rattle.pc_semantics.specs.declared.frames.Task.TheVariants as task
 use Rattle.pc_rules.specs.{Parts.{readable, lower, all_fields, through, type_of}, Fields.is_this, Control.{joined, gives_result, result_ok}, Rules.said_by}
 use Rattle.pc_valid.specs.Words.{Ty, Masks, before, masks_after}
@@ -135,7 +135,7 @@ module _ (core : CoreData) (ann : Ann) (needs : Needs core ann) (around : Around
     not_own k is bad h = bad (ap is_this (sym is) ∙ e.follows.this h)
 
     -- All children, and then the task that takes their values.
-    pub strict_ok : (t : Task) (behind : Masks) → through ann e.node.children (before e.note) ≡ Some behind → TasksOk core ann f.method (t ∷ f.tasks) behind.0 behind.1 (stacked core ann e.node.children r.held.wants) → MoveOk core ann around fs (children_first f e.node.children t)
+    pub strict_ok : (t : Task) (behind : Masks) → through ann e.node.children (before e.note) ≡ Some behind → TasksOk core ann f.method (t ∷ f.tasks) behind.0 behind.1 (stacked core ann e.node.children r.held.wants) → MoveOk core ann around fs (by_way f e.node.children (AllThen t))
     strict_ok t behind is next =
         let all = evaluations_ok core ann f.method e.node.children (t ∷ f.tasks) (before e.note) behind r.held.wants children_here is next in
         let ts : evaluations e.node.children ++ (t ∷ f.tasks) ≡ (evaluations e.node.children ++ t ∷ []) ++ f.tasks = sym (append_assoc (evaluations e.node.children) (t ∷ []) f.tasks) in

@@ -1,9 +1,9 @@
 -- When a frame's tasks can be done: with at least these slots live and these fields of its object set, and with a stack
 -- that holds at least this. Each task determines what it leaves, and what follows can be done from there.
-use Rattle.std.specs.Prelude.{◌≡◌, ◌⊎◌, ℕ, Bool, true, false, List, [], ◌∷◌, Option, Some, None, slice_get}
+use Rattle.std.specs.Prelude.{◌≡◌, ◌⊎◌, ℕ, Bool, true, false, List, [], ◌∷◌, Option, Some, None, is_some, slice_get}
 use Rattle.pc_caps.specs.declared.capability.Form.{Form}
 use Rattle.pc_caps.specs.declared.capability.Form.TheVariants as form
-use Rattle.pc_core.specs.{declared.declarations.Method.Method, declared.nodes.Node.Node, declared.nodes.NodeKind.NodeKind, CoreData.CoreData}
+use Rattle.pc_core.specs.{declared.declarations.Method.Method, declared.nodes.Node.Node, declared.nodes.NodeKind.NodeKind, CoreData.CoreData, Kinds.{read_field, written_field, stored_slot, called_name, operation, connective}}
 use Rattle.pc_core.specs.declared.declarations.MethodKind.TheVariants as method
 use Rattle.pc_core.specs.declared.nodes.NodeKind.TheVariants as nodes
 use Rattle.pc_masks.specs.{declared.mask.Mask.Mask, Masks.IsInMask}
@@ -89,17 +89,13 @@ pub record FinishOk (core : CoreData) (ann : Ann) (m : ℕ) (l s : Mask) (g : Li
   pub follows : Follows core node note below go
 
 abbrev pub reads : NodeKind → Bool
-reads (nodes.Field name) = true
-reads k = false
+reads k = is_some (read_field k)
 
 abbrev pub writes : NodeKind → Bool
-writes (nodes.SetField name) = true
-writes k = false
+writes k = is_some (written_field k)
 
 abbrev pub stores : NodeKind → Bool
-stores (nodes.Define s) = true
-stores (nodes.Assign s) = true
-stores k = false
+stores k = is_some (stored_slot k)
 
 abbrev pub makes : NodeKind → Bool
 makes (nodes.New k) = true
@@ -110,23 +106,17 @@ spawns (nodes.Spawn k) = true
 spawns k = false
 
 abbrev pub invokes : NodeKind → Bool
-invokes (nodes.Call name) = true
-invokes k = false
+invokes k = is_some (called_name k)
 
 abbrev pub applies : NodeKind → Bool
-applies (nodes.Binary o) = true
-applies nodes.Not = true
-applies (nodes.Same b) = true
-applies k = false
+applies k = is_some (operation k)
 
 -- The top of the stack is a truth value.
 abbrev pub TruthOnTop : List Want → List Want → Type 0
 TruthOnTop g below = (f : Form) × (g ≡ wanted (Some (2, f)) ∷ below)
 
 abbrev pub is_lazy : NodeKind → Bool
-is_lazy nodes.And = true
-is_lazy nodes.Or = true
-is_lazy k = false
+is_lazy k = is_some (connective k)
 
 -- The left side of node n decides, or the right side does.
 pub record TestOk (core : CoreData) (ann : Ann) (m : ℕ) (l s : Mask) (g : List Want) (n : ℕ) (go : Mask → Mask → List Want → Type 0) : Type 0 where
