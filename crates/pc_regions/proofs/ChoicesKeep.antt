@@ -4,10 +4,11 @@ use Rattle.std.proofs.Common.{inl, ap, sym, subst, ◌∙◌}
 use Rattle.pc_heap.specs.{declared.value.Value.Value, declared.value.Value.TheVariants.Truth}
 use Rattle.pc_caps.specs.declared.capability.Form.TheVariants as form
 use Rattle.pc_core.specs.{declared.nodes.Node.Node, declared.nodes.NodeKind.NodeKind, CoreData.CoreData}
+use Rattle.pc_core.specs.declared.kinds.Connective.TheVariants as joins
 use Rattle.pc_core.specs.declared.nodes.NodeKind.TheVariants as nodes
 use Rattle.pc_masks.specs.declared.mask.Mask.{Mask}
 use Rattle.pc_ann.specs.{declared.annotation.Note.Note, declared.annotation.Ann.Ann}
-use Rattle.pc_semantics.specs.{declared.frames.Frame.Frame, declared.frames.Task.Task, Configurations.{Around, Move, Goes, with_stack, pushed, none}, Parts.{with_top, at_node, branch_task, loop_task}, Evaluation.{truth, right_side, test_and, test_or, test_task, branch, loop_turn}}
+use Rattle.pc_semantics.specs.{declared.frames.Frame.Frame, declared.frames.Task.Task, Configurations.{Around, Move, Goes, with_stack, pushed, none}, Parts.{with_top, at_node, branch_task, loop_task}, Evaluation.{truth, right_side, decided, test_task, branch, loop_turn}}
 use Rattle.pc_semantics.specs.declared.frames.Task.TheVariants as task
 use Rattle.pc_valid.specs.Words.{Ty}
 use Rattle.pc_base.proofs.Bools.{false_true}
@@ -76,17 +77,17 @@ module _ (core : CoreData) (ann : Ann) (needs : Needs core ann) (climb : ClimbLa
     undecided_goes : (a : Bool) → f.stack ≡ Truth a ∷ rest → RegionMoveOk core ann w around fs (right_side (with_stack f rest) e.node.children)
     undecided_goes a at = subst (λ (cs : List ℕ). RegionMoveOk core ann w around fs (right_side (with_stack f rest) cs)) (sym e.children) (over_rest e.top e.below e.stack (Truth a) rest at (task.Eval e.right ∷ f.tasks) (inl e.undecided) refl)
 
-    and_goes : (b : Bool) → f.stack ≡ Truth b ∷ rest → RegionMoveOk core ann w around fs (test_and e.node.children b (with_stack f rest))
+    and_goes : (b : Bool) → f.stack ≡ Truth b ∷ rest → RegionMoveOk core ann w around fs (decided joins.And e.node.children b (with_stack f rest))
     and_goes false at = decided_goes false false at
     and_goes true at = undecided_goes true at
 
-    or_goes : (b : Bool) → f.stack ≡ Truth b ∷ rest → RegionMoveOk core ann w around fs (test_or e.node.children b (with_stack f rest))
+    or_goes : (b : Bool) → f.stack ≡ Truth b ∷ rest → RegionMoveOk core ann w around fs (decided joins.Or e.node.children b (with_stack f rest))
     or_goes true at = decided_goes true true at
     or_goes false at = undecided_goes false at
 
     test_kind : (k : NodeKind) → is_lazy k ≡ true → (b : Bool) → f.stack ≡ Truth b ∷ rest → RegionMoveOk core ann w around fs (test_task f e.node.children k)
-    test_kind nodes.And h b at = by_value b rest (test_and e.node.children) at (and_goes b at)
-    test_kind nodes.Or h b at = by_value b rest (test_or e.node.children) at (or_goes b at)
+    test_kind nodes.And h b at = by_value b rest (decided joins.And e.node.children) at (and_goes b at)
+    test_kind nodes.Or h b at = by_value b rest (decided joins.Or e.node.children) at (or_goes b at)
     test_kind k h b at = absurd (false_true h)
 
     pub test_goes : (b : Bool) → f.stack ≡ Truth b ∷ rest → RegionMoveOk core ann w around fs (at_node (slice_get core.nodes n) (λ x. test_task f x.children x.kind))

@@ -11,7 +11,7 @@ use Rattle.pc_base.specs.Lists.{Each}
 use Rattle.pc_masks.specs.{declared.mask.Mask.Mask, Masks.meet, MaskLaws.{meet_bits, within_bits}}
 use Rattle.pc_ann.specs.{declared.annotation.Note.Note, declared.annotation.Ann.Ann}
 use Rattle.pc_sub.specs.Computed.{is_sub}
-use Rattle.pc_semantics.specs.{declared.frames.Frame.Frame, declared.frames.Task.Task, Configurations.{Around, Goes, doing}, Children.evaluations, Evaluation.{children_first, first_then, item_tasks}}
+use Rattle.pc_semantics.specs.{declared.frames.Frame.Frame, declared.frames.Task.Task, Configurations.{Around, Goes, doing}, Children.evaluations, Evaluation.{AllThen, by_way, first_then, item_tasks}}
 use Rattle.pc_semantics.specs.declared.frames.Task.TheVariants as task
 use Rattle.pc_rules.specs.{Parts.{lower, through, type_of, last_child}, Control.{joined, gives_result, result_ok}}
 use Rattle.pc_valid.specs.Words.{Ty, Masks, before, masks_after}
@@ -119,7 +119,7 @@ module _ (core : CoreData) (ann : Ann) (needs : Needs core ann) (flat : LiveShal
 
     -- All children, and then the task that takes their values.
     pub strict_goes : (k : NodeKind) → e.node.kind ≡ k → inner_depth k d ≡ d → (t : Task) (behind : Masks) → through ann e.node.children (before e.note) ≡ Some behind → (0 < length e.node.children) ⊎ (uses_top (t ∷ f.tasks) ≡ false)
-        → ((more : Mask) → Within behind.0 more → TasksRise core ann f.method (t ∷ f.tasks) d more (piled ann d e.node.children g)) → RegionMoveOk core ann w around fs (children_first f e.node.children t)
+        → ((more : Mask) → Within behind.0 more → TasksRise core ann f.method (t ∷ f.tasks) d more (piled ann d e.node.children g)) → RegionMoveOk core ann w around fs (by_way f e.node.children (AllThen t))
     strict_goes k is level t behind masks many next =
         let each : Each (λ i c. IsAt core f.method d c) e.node.children = subst (λ (j : ℕ). Each (λ i c. IsAt core f.method j c) e.node.children) level (here k is) in
         let all = evaluations_rise core ann flat f.method d e.node.children (t ∷ f.tasks) (before e.note) behind s.active.holds.live g each masks e.live s.active.shallow next in

@@ -1,20 +1,21 @@
 -- The task Eval, at each kind of node, in regions.
-use Rattle.std.specs.Prelude.{◌≡◌, ℕ, suc, ◌+◌, ◌-◌, ◌<◌, ◌≤◌, Bool, false, ◌&&◌, cond, List, [], ◌∷◌, length, Option, Some, None, nat_eq, nat_lt, slice_get, refl}
+use Rattle.std.specs.Prelude.{◌≡◌, ◌⊎◌, ℕ, suc, ◌+◌, ◌-◌, ◌<◌, ◌≤◌, Bool, true, false, ◌&&◌, cond, List, [], ◌∷◌, length, Option, Some, None, nat_eq, nat_lt, slice_get, refl}
 use Rattle.std.proofs.{Common.{inl, inr, ap, sym, subst, ◌∙◌, arith}, lemmas.Bool.{eq-eqb, le-ltb, cases_lt, and_right}, lemmas.Option.same_Some}
 use Rattle.pc_heap.specs.declared.value.Value.{Value}
 use Rattle.pc_caps.specs.{declared.capability.Cap.Cap, declared.capability.Form.Form}
-use Rattle.pc_core.specs.{declared.nodes.Node.Node, declared.nodes.NodeKind.NodeKind, CoreData.CoreData}
+use Rattle.pc_core.specs.{declared.nodes.Node.Node, declared.nodes.NodeKind.NodeKind, CoreData.CoreData, Nodes.inner_depth}
 use Rattle.pc_core.specs.declared.nodes.NodeKind.TheVariants as nodes
 use Rattle.pc_base.specs.Lists.{◌>>=◌}
+use Rattle.pc_masks.specs.declared.mask.Mask.{Mask}
 use Rattle.pc_ann.specs.declared.annotation.Ann.{Ann}
-use Rattle.pc_semantics.specs.{declared.frames.Frame.Frame, Configurations.Around, Evaluation.{first_then, evaluate}, Parts.evaluate_node}
+use Rattle.pc_semantics.specs.{declared.frames.Frame.Frame, declared.frames.Task.Task, Configurations.Around, Evaluation.{AllThen, first_then, by_way, evaluate}, Parts.evaluate_node}
 use Rattle.pc_semantics.specs.declared.frames.Task.TheVariants as task
 use Rattle.pc_rules.specs.{Parts.through, Rules.said_by}
 use Rattle.pc_valid.specs.Words.{Ty, before}
-use Rattle.pc_rules.proofs.{ByNumber.says, OneRule.body_rule, Threads.{Threaded, is_branch}}
+use Rattle.pc_rules.proofs.{ByNumber.says, OneRule.body_rule, Threads.is_branch}
 use Rattle.pc_base.proofs.Bools.{false_true}
 use Rattle.pc_types.proofs.{Tasks.{EvalOk, BodyOk, TasksOk, reads, writes, stores, makes, spawns, invokes, applies, is_lazy}, Moves.Runs, Needs.Needs, Notes.{meets, children_threaded, names_fit, arity_fits}, Begin.body_inverse, EvalChildren.{within_is, first_of_them, type_is}, Inverse.{RecoverRule, number_rule, truth_rule, text_rule, prim_rule, this_rule, local_rule, consume_rule, and_rule, or_rule, if_rule, while_rule, seq_rule, recover_rule}}
-use Rattle.pc_regions.proofs.{World.{Place, InSlot, OnStack, World, Opened, FitsSome}, StackForms.{Entry, Shallow, Recovers, recovered_type, EvalRises, BodyRises, TasksRise, LiveShallow}, Fitting.{ThisFits, SlotsFit, StackFits, OpenedTo}, MoveFits.{RegionMoveOk, Situated}, Changes.{with_open, Shifts}, Climbed.ClimbLaw, ContextLaws.{higher, OpenLaw}, Shifts.{others_kept, fields_kept, below_under}, Rising.higher_elsewhere, StandsOtherwise.stand_here, ChildForms.{IsAt, at_depth}, ControlKeeps.{children_of, child_of, strict_goes, finish_rises, entry_at, tail_rises, lazy_goes, if_goes, while_goes, seq_goes, body_goes}, ValueKeeps.{number_goes, truth_goes, text_goes, prim_goes, this_goes, slot_goes, consume_goes}, Schedules.KeepsRegions, Waiting.slot_depth, Taken.TakeLaw}
+use Rattle.pc_regions.proofs.{World.{Place, InSlot, OnStack, World, Opened, FitsSome}, StackForms.{Entry, Shallow, Recovers, recovered_type, EvalRises, BodyRises, FinishRises, TasksRise, uses_top, LiveShallow}, Fitting.{ThisFits, SlotsFit, StackFits, OpenedTo}, MoveFits.{RegionMoveOk, Situated}, Changes.{with_open, Shifts}, Climbed.ClimbLaw, ContextLaws.{higher, OpenLaw}, Shifts.{others_kept, fields_kept, below_under}, Rising.higher_elsewhere, StandsOtherwise.stand_here, ChildForms.{IsAt, at_depth}, ControlKeeps.{children_of, child_of, strict_goes, finish_rises, entry_at, tail_rises, lazy_goes, if_goes, while_goes, seq_goes, body_goes}, ValueKeeps.{number_goes, truth_goes, text_goes, prim_goes, this_goes, slot_goes, consume_goes}, Schedules.KeepsRegions, Waiting.slot_depth, Taken.TakeLaw}
 
 -- ---- levels above
 
@@ -129,12 +130,17 @@ module _ (core : CoreData) (ann : Ann) (needs : Needs core ann) (flat : LiveShal
 
 module _ (core : CoreData) (ann : Ann) (needs : Needs core ann) (flat : LiveShallow core ann) (climb : ClimbLaw core) (take : TakeLaw) (opens : OpenLaw) (around : Around) (f : Frame) (fs : List Frame) (r : Runs core ann around f fs) (w : World) (n : ℕ) (s : Situated core ann w around f (task.Eval n ∷ f.tasks) fs) where
   module _ (e : EvalRises core ann f.method s.active.depth s.active.holds.live s.active.holds.entries n (λ d l g. TasksRise core ann f.method f.tasks d l g)) (t : EvalOk core ann f.method r.held.live r.held.set r.held.wants n (λ l z g. TasksOk core ann f.method f.tasks l z g)) where
-    -- The children of a node of this kind are evaluated one after another.
-    threaded_at : (k : NodeKind) → e.node.kind ≡ k → is_branch k ≡ false → says core ann e.node (before e.note) e.note.rule k ≡ Some (said_by e.note) → Threaded ann e.node.children (before e.note)
-    threaded_at k is other q = children_threaded core ann needs n e.node e.note e.is_node k is other q
-
     some : (c k : ℕ) → c ≡ suc k → 0 < c
     some c k is = omega (arith, is)
+
+    -- All children of a node of this kind, and then the task that finishes it.
+    all_goes : (does : NodeKind → Bool) (t : Task)
+        → ((m : Mask) (g : List Entry) → FinishRises core ann f.method s.active.depth m g does n (λ d l g. TasksRise core ann f.method f.tasks d l g) → TasksRise core ann f.method (t ∷ f.tasks) s.active.depth m g)
+        → (k : NodeKind) → e.node.kind ≡ k → does k ≡ true → is_branch k ≡ false → inner_depth k s.active.depth ≡ s.active.depth → (0 < length e.node.children) ⊎ (uses_top (t ∷ f.tasks) ≡ false)
+        → says core ann e.node (before e.note) e.note.rule k ≡ Some (said_by e.note) → RegionMoveOk core ann w around fs (by_way f e.node.children (AllThen t))
+    all_goes does t finish k is h other level many q =
+        let c = children_threaded core ann needs n e.node e.note e.is_node k is other q in
+        strict_goes core ann needs flat around f fs w n s e k is level t c.0 c.1 many (λ m v. finish m _ (finish_rises core ann needs flat around f fs w n s e does k is h c.0 c.1 m v))
 
     kind_goes : (k : NodeKind) → e.node.kind ≡ k → says core ann e.node (before e.note) e.note.rule k ≡ Some (said_by e.note) → RegionMoveOk core ann w around fs (evaluate f n e.node.children k)
     kind_goes (nodes.Number z) is q = number_goes core ann needs climb take around f fs r w n s e t z (number_rule core ann e.node e.note e.note.rule z q)
@@ -148,16 +154,13 @@ module _ (core : CoreData) (ann : Ann) (needs : Needs core ann) (flat : LiveShal
     kind_goes (nodes.Consume z) is q =
         let u = consume_rule core ann e.node e.note e.note.rule z q in
         consume_goes core ann needs climb take around f fs r w n s e t z (names_fit core ann needs n e.node e.is_node (nodes.Consume z) is).0 u.place u.used u.says
-    kind_goes (nodes.Field z) is q = let c = threaded_at (nodes.Field z) is refl q in strict_goes core ann needs flat around f fs w n s e (nodes.Field z) is refl (task.Get n) c.0 c.1 (inl (some (length e.node.children) 0 (arity_fits core ann needs n e.node e.is_node (nodes.Field z) is))) (λ m v. finish_rises core ann needs flat around f fs w n s e reads (nodes.Field z) is refl c.0 c.1 m v)
-    kind_goes (nodes.SetField z) is q = let c = threaded_at (nodes.SetField z) is refl q in strict_goes core ann needs flat around f fs w n s e (nodes.SetField z) is refl (task.Put n) c.0 c.1 (inl (some (length e.node.children) 1 (arity_fits core ann needs n e.node e.is_node (nodes.SetField z) is))) (λ m v. finish_rises core ann needs flat around f fs w n s e writes (nodes.SetField z) is refl c.0 c.1 m v)
-    kind_goes (nodes.Define z) is q = let c = threaded_at (nodes.Define z) is refl q in strict_goes core ann needs flat around f fs w n s e (nodes.Define z) is refl (task.Store n) c.0 c.1 (inr refl) (λ m v. finish_rises core ann needs flat around f fs w n s e stores (nodes.Define z) is refl c.0 c.1 m v)
-    kind_goes (nodes.Assign z) is q = let c = threaded_at (nodes.Assign z) is refl q in strict_goes core ann needs flat around f fs w n s e (nodes.Assign z) is refl (task.Store n) c.0 c.1 (inr refl) (λ m v. finish_rises core ann needs flat around f fs w n s e stores (nodes.Assign z) is refl c.0 c.1 m v)
-    kind_goes (nodes.New z) is q = let c = threaded_at (nodes.New z) is refl q in strict_goes core ann needs flat around f fs w n s e (nodes.New z) is refl (task.Make n) c.0 c.1 (inr refl) (λ m v. finish_rises core ann needs flat around f fs w n s e makes (nodes.New z) is refl c.0 c.1 m v)
-    kind_goes (nodes.Spawn z) is q = let c = threaded_at (nodes.Spawn z) is refl q in strict_goes core ann needs flat around f fs w n s e (nodes.Spawn z) is refl (task.Spawn n) c.0 c.1 (inr refl) (λ m v. finish_rises core ann needs flat around f fs w n s e spawns (nodes.Spawn z) is refl c.0 c.1 m v)
-    kind_goes (nodes.Call z) is q = let c = threaded_at (nodes.Call z) is refl q in strict_goes core ann needs flat around f fs w n s e (nodes.Call z) is refl (task.Invoke n) c.0 c.1 (inl (arity_fits core ann needs n e.node e.is_node (nodes.Call z) is)) (λ m v. finish_rises core ann needs flat around f fs w n s e invokes (nodes.Call z) is refl c.0 c.1 m v)
-    kind_goes (nodes.Binary o) is q = let c = threaded_at (nodes.Binary o) is refl q in strict_goes core ann needs flat around f fs w n s e (nodes.Binary o) is refl (task.Apply n) c.0 c.1 (inr refl) (λ m v. finish_rises core ann needs flat around f fs w n s e applies (nodes.Binary o) is refl c.0 c.1 m v)
-    kind_goes nodes.Not is q = let c = threaded_at nodes.Not is refl q in strict_goes core ann needs flat around f fs w n s e nodes.Not is refl (task.Apply n) c.0 c.1 (inr refl) (λ m v. finish_rises core ann needs flat around f fs w n s e applies nodes.Not is refl c.0 c.1 m v)
-    kind_goes (nodes.Same b) is q = let c = threaded_at (nodes.Same b) is refl q in strict_goes core ann needs flat around f fs w n s e (nodes.Same b) is refl (task.Apply n) c.0 c.1 (inr refl) (λ m v. finish_rises core ann needs flat around f fs w n s e applies (nodes.Same b) is refl c.0 c.1 m v)
+    kind_goes (nodes.Field z) is q = all_goes reads (task.Get n) (λ m d h. h) (nodes.Field z) is refl refl refl (inl (some (length e.node.children) 0 (arity_fits core ann needs n e.node e.is_node (nodes.Field z) is))) q
+    kind_goes (nodes.SetField z) is q = all_goes writes (task.Put n) (λ m d h. h) (nodes.SetField z) is refl refl refl (inl (some (length e.node.children) 1 (arity_fits core ann needs n e.node e.is_node (nodes.SetField z) is))) q
+    kind_goes (nodes.Define z) is q = all_goes stores (task.Store n) (λ m d h. h) (nodes.Define z) is refl refl refl (inr refl) q
+    kind_goes (nodes.Assign z) is q = all_goes stores (task.Store n) (λ m d h. h) (nodes.Assign z) is refl refl refl (inr refl) q
+    kind_goes (nodes.New z) is q = all_goes makes (task.Make n) (λ m d h. h) (nodes.New z) is refl refl refl (inr refl) q
+    kind_goes (nodes.Spawn z) is q = all_goes spawns (task.Spawn n) (λ m d h. h) (nodes.Spawn z) is refl refl refl (inr refl) q
+    kind_goes (nodes.Call z) is q = all_goes invokes (task.Invoke n) (λ m d h. h) (nodes.Call z) is refl refl refl (inl (arity_fits core ann needs n e.node e.is_node (nodes.Call z) is)) q
     kind_goes nodes.And is q = lazy_goes core ann needs flat around f fs w n s e nodes.And is refl (and_rule core ann e.node e.note e.note.rule q) (ap is_lazy is)
     kind_goes nodes.Or is q = lazy_goes core ann needs flat around f fs w n s e nodes.Or is refl (or_rule core ann e.node e.note e.note.rule q) (ap is_lazy is)
     kind_goes nodes.If is q = if_goes core ann needs flat around f fs w n s e is (if_rule core ann e.node e.note e.note.rule q)
@@ -165,6 +168,7 @@ module _ (core : CoreData) (ann : Ann) (needs : Needs core ann) (flat : LiveShal
     kind_goes nodes.Seq is q = seq_goes core ann needs flat around f fs w n s e is (seq_rule core ann e.node e.note e.note.rule q)
     kind_goes (nodes.Recover c) is q = recover_goes core ann needs flat opens around f fs w n s e c is (recover_rule core ann e.node e.note e.note.rule c q)
     kind_goes nodes.Body is q = absurd (e.inner is)
+    kind_goes k is q = all_goes applies (task.Apply n) (λ m d h. h) k is refl refl refl (inr refl) q
 
     node_goes : RegionMoveOk core ann w around fs (evaluate_node f n (slice_get core.nodes n))
     node_goes =
