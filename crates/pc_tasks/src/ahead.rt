@@ -1,6 +1,6 @@
 //! What the first task of a frame is, before it is done, if it concerns the frame and the objects alone. The functions
 //! only read, and do not allocate.
-ghost use Rattle.std.specs.Prelude.{◌≡◌, ℕ, Bool, slice_get, List as Sequence};
+ghost use Rattle.std.specs.Prelude.{◌≡◌, ℕ, Bool, slice_get};
 ghost use Rattle.pc_core.specs.declared.kinds.Connective.TheVariants as joins;
 ghost use Rattle.pc_semantics.specs.Ahead.{by_move};
 ghost use Rattle.pc_semantics.specs.Configurations.{pop, Goes};
@@ -9,74 +9,22 @@ ghost use Rattle.pc_semantics.specs.Parts as parts;
 ghost use Rattle.pc_semantics.specs.Calls as fields;
 ghost use Rattle.pc_semantics.specs.Parts.{at_node};
 ghost use Rattle.pc_semantics.specs.declared.frames.Frame.{Frame};
-ghost use Rattle.pc_semantics.specs.declared.frames.Task.{Task};
 ghost use Rattle.pc_tasks.specs.Fielded.{Fielded};
 ghost use Rattle.pc_tasks.specs.Inside.{IsInside, amid, first_move, relieved, seeing};
 
+use crate::evaluation::evaluation_ahead;
 use crate::operators::{is_too_long, of_numbers, of_truths};
-use pc_core::{Connective, Core, NodeKind, Operation};
+use pc_core::{Connective, Core, Operation};
 use pc_heap::{Heap, Text, Value};
 use pc_semantics::{Ahead, Frame, Task};
 use pc_tree::Op;
-
-// The value of a slot is pushed, or taken out of the slot.
-fn slot(frame: &Frame, slot: u32) -> Ahead
-    ensures read { result ≡ by_move (parts.push_slot (relieved frame.now) (slice_get frame.now.slots slot)) }
-    ensures taken { result ≡ by_move (parts.take_slot (relieved frame.now) slot (slice_get frame.now.slots slot)) }
-{
-    match frame.slots.get(slot as usize) {
-        Some(_) => Ahead::Task,
-        None => Ahead::Lacks,
-    }
-}
-
-// The first of these nodes is evaluated.
-fn first_of(children: &[u32]) -> Ahead
-    ensures { (f : Frame) (then : Sequence Task) → result ≡ by_move (evaluation.first_then f children.now then) }
-{
-    match children.first() {
-        Some(_) => Ahead::Task,
-        None => Ahead::Lacks,
-    }
-}
-
-// The evaluation of a node of this kind, with these children.
-fn evaluate_kind(frame: &Frame, children: &[u32], kind: &NodeKind) -> Ahead
-    ensures { (n : ℕ) → result ≡ by_move (evaluation.evaluate (relieved frame.now) n children.now kind.now) }
-{
-    match kind {
-        NodeKind::Number(_)
-        | NodeKind::Truth(_)
-        | NodeKind::Text(_)
-        | NodeKind::Prim(_)
-        | NodeKind::Field(_)
-        | NodeKind::SetField(_)
-        | NodeKind::Define(_)
-        | NodeKind::Assign(_)
-        | NodeKind::New(_)
-        | NodeKind::Spawn(_)
-        | NodeKind::Call(_)
-        | NodeKind::Binary(_)
-        | NodeKind::Not
-        | NodeKind::Same(_)
-        | NodeKind::Seq => Ahead::Task,
-        NodeKind::This => slot(frame, 0),
-        NodeKind::Local(place) | NodeKind::Consume(place) => slot(frame, *place),
-        NodeKind::And
-        | NodeKind::Or
-        | NodeKind::If
-        | NodeKind::While
-        | NodeKind::Recover(_)
-        | NodeKind::Body => first_of(children),
-    }
-}
 
 // The task Eval of this node.
 fn evaluate(core: &Core, frame: &Frame, number: u32) -> Ahead
     ensures { result ≡ by_move (parts.evaluate_node (relieved frame.now) number (slice_get core.now.nodes number)) }
 {
     match core.node_at(number) {
-        Some(node) => evaluate_kind(frame, node.children.as_slice(), &node.kind),
+        Some(node) => evaluation_ahead(frame, node.children.as_slice(), &node.kind),
         None => Ahead::Lacks,
     }
 }

@@ -1,15 +1,18 @@
-//! The evaluation of nodes.
-ghost use Rattle.std.specs.Prelude.{◌≡◌, ◌<◌, ◌∷◌, ◌++◌, [], length, None, Some, option_to_list, slice_get, IfOk, OnOk, OnErr};
+//! The evaluation of nodes, and what it is before it is done.
+ghost use Rattle.std.specs.Prelude.{◌≡◌, ◌<◌, ◌∷◌, ◌++◌, [], ℕ, length, None, Some, option_to_list, slice_get, IfOk, OnOk, OnErr, List as Sequence};
+ghost use Rattle.pc_semantics.specs.Ahead.{by_move};
 ghost use Rattle.pc_semantics.specs.Configurations.{Goes, doing};
 ghost use Rattle.pc_semantics.specs.Evaluation as spec;
 ghost use Rattle.pc_semantics.specs.Parts as parts;
+ghost use Rattle.pc_semantics.specs.declared.frames.Frame.{Frame};
+ghost use Rattle.pc_semantics.specs.declared.frames.Task.{Task};
 ghost use Rattle.pc_tasks.specs.Inside.{relieved, within};
 
 use crate::frames::{go_on_with, push_value};
 use crate::values::none;
 use pc_core::{Children, Core, NodeKind};
 use pc_heap::{Text, Value};
-use pc_semantics::{Frame, Lack, Outcome, Task};
+use pc_semantics::{Ahead, Frame, Lack, Outcome, Task};
 use std::alloc::AllocError;
 
 // A slot's value is pushed.
@@ -145,4 +148,58 @@ pub fn evaluate_node(core: &Core, frame: &mut Frame, number: u32) -> Result<Outc
         return Ok(Outcome::Lacks(Lack::Value));
     };
     evaluate(frame, number, &node.children, &node.kind)
+}
+
+// ---- before it is done
+
+// The value of a slot is pushed, or taken out of the slot.
+fn slot_ahead(frame: &Frame, slot: u32) -> Ahead
+    ensures read { result ≡ by_move (parts.push_slot (relieved frame.now) (slice_get frame.now.slots slot)) }
+    ensures taken { result ≡ by_move (parts.take_slot (relieved frame.now) slot (slice_get frame.now.slots slot)) }
+{
+    match frame.slots.get(slot as usize) {
+        Some(_) => Ahead::Task,
+        None => Ahead::Lacks,
+    }
+}
+
+// The first of these nodes is evaluated.
+fn first_ahead(children: &[u32]) -> Ahead
+    ensures { (f : Frame) (then : Sequence Task) → result ≡ by_move (spec.first_then f children.now then) }
+{
+    match children.first() {
+        Some(_) => Ahead::Task,
+        None => Ahead::Lacks,
+    }
+}
+
+/// What the evaluation of a node of this kind, with these children, is before it is done. It does not allocate.
+pub fn evaluation_ahead(frame: &Frame, children: &[u32], kind: &NodeKind) -> Ahead
+    ensures { (n : ℕ) → result ≡ by_move (spec.evaluate (relieved frame.now) n children.now kind.now) }
+{
+    match kind {
+        NodeKind::Number(_)
+        | NodeKind::Truth(_)
+        | NodeKind::Text(_)
+        | NodeKind::Prim(_)
+        | NodeKind::Field(_)
+        | NodeKind::SetField(_)
+        | NodeKind::Define(_)
+        | NodeKind::Assign(_)
+        | NodeKind::New(_)
+        | NodeKind::Spawn(_)
+        | NodeKind::Call(_)
+        | NodeKind::Binary(_)
+        | NodeKind::Not
+        | NodeKind::Same(_)
+        | NodeKind::Seq => Ahead::Task,
+        NodeKind::This => slot_ahead(frame, 0),
+        NodeKind::Local(place) | NodeKind::Consume(place) => slot_ahead(frame, *place),
+        NodeKind::And
+        | NodeKind::Or
+        | NodeKind::If
+        | NodeKind::While
+        | NodeKind::Recover(_)
+        | NodeKind::Body => first_ahead(children),
+    }
 }
