@@ -34,56 +34,16 @@ sub_push a b y h x i = elim (split a x i) [ inl l ↦ left b x (h x l) | inr r �
     right (z ∷ zs) = inr (right zs)
 
 asks_more : {all some items others : Type 0} (k : NodeKind) (a b : List ℕ) → Sub a b → (all → some) → (items → others) → AsksVisible k a all items → AsksVisible k b some others
-asks_more (node.Number n) a b h f g x = f x
-asks_more (node.Truth n) a b h f g x = f x
-asks_more (node.Text n) a b h f g x = f x
-asks_more (node.Prim n) a b h f g x = f x
-asks_more node.This a b h f g x = f x
 asks_more (node.Local n) a b h f g x = (h n x.0, f x.1)
 asks_more (node.Consume n) a b h f g x = (h n x.0, f x.1)
-asks_more (node.Field n) a b h f g x = f x
-asks_more (node.SetField n) a b h f g x = f x
 asks_more (node.Assign n) a b h f g x = (h n x.0, f x.1)
-asks_more (node.New n) a b h f g x = f x
-asks_more (node.Spawn n) a b h f g x = f x
-asks_more (node.Call n) a b h f g x = f x
-asks_more (node.Binary n) a b h f g x = f x
-asks_more node.Not a b h f g x = f x
-asks_more node.And a b h f g x = f x
-asks_more node.Or a b h f g x = f x
-asks_more (node.Same n) a b h f g x = f x
 asks_more node.Seq a b h f g x = g x
-asks_more node.If a b h f g x = f x
-asks_more node.While a b h f g x = f x
-asks_more (node.Recover n) a b h f g x = f x
-asks_more node.Body a b h f g x = f x
 asks_more (node.Define n) a b h f g x = absurd x
+asks_more k a b h f g x = f x
 
 item_more : {all some part piece : Type 0} {R Q : List ℕ → Type 0} (k : NodeKind) (a b : List ℕ) → Sub a b → (all → some) → (part → piece) → ((v w : List ℕ) → Sub v w → R v → Q w) → ItemAsks k a all part R → ItemAsks k b some piece Q
-item_more (node.Number n) a b h f g q x = (g x.0, q a b h x.1)
-item_more (node.Truth n) a b h f g q x = (g x.0, q a b h x.1)
-item_more (node.Text n) a b h f g q x = (g x.0, q a b h x.1)
-item_more (node.Prim n) a b h f g q x = (g x.0, q a b h x.1)
-item_more node.This a b h f g q x = (g x.0, q a b h x.1)
-item_more (node.Local n) a b h f g q x = (g x.0, q a b h x.1)
-item_more (node.Consume n) a b h f g q x = (g x.0, q a b h x.1)
-item_more (node.Field n) a b h f g q x = (g x.0, q a b h x.1)
-item_more (node.SetField n) a b h f g q x = (g x.0, q a b h x.1)
-item_more (node.Assign n) a b h f g q x = (g x.0, q a b h x.1)
-item_more (node.New n) a b h f g q x = (g x.0, q a b h x.1)
-item_more (node.Spawn n) a b h f g q x = (g x.0, q a b h x.1)
-item_more (node.Call n) a b h f g q x = (g x.0, q a b h x.1)
-item_more (node.Binary n) a b h f g q x = (g x.0, q a b h x.1)
-item_more node.Not a b h f g q x = (g x.0, q a b h x.1)
-item_more node.And a b h f g q x = (g x.0, q a b h x.1)
-item_more node.Or a b h f g q x = (g x.0, q a b h x.1)
-item_more (node.Same n) a b h f g q x = (g x.0, q a b h x.1)
-item_more node.Seq a b h f g q x = (g x.0, q a b h x.1)
-item_more node.If a b h f g q x = (g x.0, q a b h x.1)
-item_more node.While a b h f g q x = (g x.0, q a b h x.1)
-item_more (node.Recover n) a b h f g q x = (g x.0, q a b h x.1)
-item_more node.Body a b h f g q x = (g x.0, q a b h x.1)
 item_more (node.Define n) a b h f g q x = (f x.0, q (a ++ n ∷ []) (b ++ n ∷ []) (sub_push a b n h) x.1)
+item_more k a b h f g q x = (g x.0, q a b h x.1)
 
 mutual
   weaken : (r : Rose) (a b : List ℕ) → Sub a b → Scoped a r → Scoped b r
@@ -103,30 +63,8 @@ none_in b x h = absurd h
 -- ---- the items of a body
 
 item_rest : (all part : Type 0) {R Q : List ℕ → Type 0} (k : NodeKind) (a : List ℕ) → ((v : List ℕ) → R v → Q v) → ItemAsks k a all part R → ItemAsks k a all part Q
-item_rest all part (node.Number n) a q x = (x.0, q a x.1)
-item_rest all part (node.Truth n) a q x = (x.0, q a x.1)
-item_rest all part (node.Text n) a q x = (x.0, q a x.1)
-item_rest all part (node.Prim n) a q x = (x.0, q a x.1)
-item_rest all part node.This a q x = (x.0, q a x.1)
-item_rest all part (node.Local n) a q x = (x.0, q a x.1)
-item_rest all part (node.Consume n) a q x = (x.0, q a x.1)
-item_rest all part (node.Field n) a q x = (x.0, q a x.1)
-item_rest all part (node.SetField n) a q x = (x.0, q a x.1)
-item_rest all part (node.Assign n) a q x = (x.0, q a x.1)
-item_rest all part (node.New n) a q x = (x.0, q a x.1)
-item_rest all part (node.Spawn n) a q x = (x.0, q a x.1)
-item_rest all part (node.Call n) a q x = (x.0, q a x.1)
-item_rest all part (node.Binary n) a q x = (x.0, q a x.1)
-item_rest all part node.Not a q x = (x.0, q a x.1)
-item_rest all part node.And a q x = (x.0, q a x.1)
-item_rest all part node.Or a q x = (x.0, q a x.1)
-item_rest all part (node.Same n) a q x = (x.0, q a x.1)
-item_rest all part node.Seq a q x = (x.0, q a x.1)
-item_rest all part node.If a q x = (x.0, q a x.1)
-item_rest all part node.While a q x = (x.0, q a x.1)
-item_rest all part (node.Recover n) a q x = (x.0, q a x.1)
-item_rest all part node.Body a q x = (x.0, q a x.1)
 item_rest all part (node.Define n) a q x = (x.0, q (a ++ n ∷ []) x.1)
+item_rest all part k a q x = (x.0, q a x.1)
 
 then_none : (vis : List ℕ) (rs : Roses) (s : Span) → ItemsScoped vis rs → ItemsScoped vis (and_last rs (added_none s 0))
 then_none vis no_roses s h = (tt, tt)

@@ -21,60 +21,20 @@ record Asked (k : NodeKind) (vis : List ℕ) (all items : Type 0) : Type 0 where
   inside : all ⊎ ((k ≡ node.Seq) × items)
 
 asked : (k : NodeKind) (vis : List ℕ) (all items : Type 0) → AsksVisible k vis all items → Asked k vis all items
-asked (node.Number n) vis all items h = record { uses = λ s u. absurd u; other = λ s e. subst IsDefine (sym e) tt; inside = inl h }
-asked (node.Truth n) vis all items h = record { uses = λ s u. absurd u; other = λ s e. subst IsDefine (sym e) tt; inside = inl h }
-asked (node.Text n) vis all items h = record { uses = λ s u. absurd u; other = λ s e. subst IsDefine (sym e) tt; inside = inl h }
-asked (node.Prim n) vis all items h = record { uses = λ s u. absurd u; other = λ s e. subst IsDefine (sym e) tt; inside = inl h }
-asked node.This vis all items h = record { uses = λ s u. absurd u; other = λ s e. subst IsDefine (sym e) tt; inside = inl h }
 asked (node.Local n) vis all items h = record { uses = λ s u. subst (λ z. IsIn z vis) u h.0; other = λ s e. subst IsDefine (sym e) tt; inside = inl h.1 }
 asked (node.Consume n) vis all items h = record { uses = λ s u. subst (λ z. IsIn z vis) u h.0; other = λ s e. subst IsDefine (sym e) tt; inside = inl h.1 }
-asked (node.Field n) vis all items h = record { uses = λ s u. absurd u; other = λ s e. subst IsDefine (sym e) tt; inside = inl h }
-asked (node.SetField n) vis all items h = record { uses = λ s u. absurd u; other = λ s e. subst IsDefine (sym e) tt; inside = inl h }
 asked (node.Assign n) vis all items h = record { uses = λ s u. subst (λ z. IsIn z vis) u h.0; other = λ s e. subst IsDefine (sym e) tt; inside = inl h.1 }
-asked (node.New n) vis all items h = record { uses = λ s u. absurd u; other = λ s e. subst IsDefine (sym e) tt; inside = inl h }
-asked (node.Spawn n) vis all items h = record { uses = λ s u. absurd u; other = λ s e. subst IsDefine (sym e) tt; inside = inl h }
-asked (node.Call n) vis all items h = record { uses = λ s u. absurd u; other = λ s e. subst IsDefine (sym e) tt; inside = inl h }
-asked (node.Binary n) vis all items h = record { uses = λ s u. absurd u; other = λ s e. subst IsDefine (sym e) tt; inside = inl h }
-asked node.Not vis all items h = record { uses = λ s u. absurd u; other = λ s e. subst IsDefine (sym e) tt; inside = inl h }
-asked node.And vis all items h = record { uses = λ s u. absurd u; other = λ s e. subst IsDefine (sym e) tt; inside = inl h }
-asked node.Or vis all items h = record { uses = λ s u. absurd u; other = λ s e. subst IsDefine (sym e) tt; inside = inl h }
-asked (node.Same n) vis all items h = record { uses = λ s u. absurd u; other = λ s e. subst IsDefine (sym e) tt; inside = inl h }
 asked node.Seq vis all items h = record { uses = λ s u. absurd u; other = λ s e. subst IsDefine (sym e) tt; inside = inr (refl, h) }
-asked node.If vis all items h = record { uses = λ s u. absurd u; other = λ s e. subst IsDefine (sym e) tt; inside = inl h }
-asked node.While vis all items h = record { uses = λ s u. absurd u; other = λ s e. subst IsDefine (sym e) tt; inside = inl h }
-asked (node.Recover n) vis all items h = record { uses = λ s u. absurd u; other = λ s e. subst IsDefine (sym e) tt; inside = inl h }
-asked node.Body vis all items h = record { uses = λ s u. absurd u; other = λ s e. subst IsDefine (sym e) tt; inside = inl h }
 asked (node.Define n) vis all items h = absurd h
+asked k vis all items h = record { uses = λ s u. absurd u; other = λ s e. subst IsDefine (sym e) tt; inside = inl h }
 
 -- An item defines a local, or it is like any other part.
 abbrev ItemIs : NodeKind → List ℕ → Type 0 → Type 0 → (List ℕ → Type 0) → Type 0
 ItemIs k vis all part rest = ((s : ℕ) × (k ≡ node.Define s) × all × rest (vis ++ s ∷ [])) ⊎ (part × rest vis)
 
 item_is : (k : NodeKind) (vis : List ℕ) (all part : Type 0) (rest : List ℕ → Type 0) → ItemAsks k vis all part rest → ItemIs k vis all part rest
-item_is (node.Number n) vis all part rest h = inr h
-item_is (node.Truth n) vis all part rest h = inr h
-item_is (node.Text n) vis all part rest h = inr h
-item_is (node.Prim n) vis all part rest h = inr h
-item_is node.This vis all part rest h = inr h
-item_is (node.Local n) vis all part rest h = inr h
-item_is (node.Consume n) vis all part rest h = inr h
-item_is (node.Field n) vis all part rest h = inr h
-item_is (node.SetField n) vis all part rest h = inr h
-item_is (node.Assign n) vis all part rest h = inr h
-item_is (node.New n) vis all part rest h = inr h
-item_is (node.Spawn n) vis all part rest h = inr h
-item_is (node.Call n) vis all part rest h = inr h
-item_is (node.Binary n) vis all part rest h = inr h
-item_is node.Not vis all part rest h = inr h
-item_is node.And vis all part rest h = inr h
-item_is node.Or vis all part rest h = inr h
-item_is (node.Same n) vis all part rest h = inr h
-item_is node.Seq vis all part rest h = inr h
-item_is node.If vis all part rest h = inr h
-item_is node.While vis all part rest h = inr h
-item_is (node.Recover n) vis all part rest h = inr h
-item_is node.Body vis all part rest h = inr h
 item_is (node.Define n) vis all part rest h = inl (n, refl, h.0, h.1)
+item_is k vis all part rest h = inr h
 
 -- ---- what is known of a node
 

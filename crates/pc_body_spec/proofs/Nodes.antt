@@ -63,30 +63,8 @@ pub beyond : (ns : List Node) (i : ℕ) (x : Node) → length ns ≤ i → slice
 beyond ns i x from e = let l = get_below ns i x e in absurd (omega (arith, l, from))
 
 inside_is : (k : NodeKind) (d : ℕ) → d + 1 ≤ 2 ^ 32 - 1 → depth_inside k d ≡ inner_depth k d
-inside_is (node.Number n) d h = refl
-inside_is (node.Truth n) d h = refl
-inside_is (node.Text n) d h = refl
-inside_is (node.Prim n) d h = refl
-inside_is (node.This) d h = refl
-inside_is (node.Local n) d h = refl
-inside_is (node.Consume n) d h = refl
-inside_is (node.Field n) d h = refl
-inside_is (node.SetField n) d h = refl
-inside_is (node.Define n) d h = refl
-inside_is (node.Assign n) d h = refl
-inside_is (node.New n) d h = refl
-inside_is (node.Spawn n) d h = refl
-inside_is (node.Call n) d h = refl
-inside_is (node.Binary n) d h = refl
-inside_is (node.Not) d h = refl
-inside_is (node.And) d h = refl
-inside_is (node.Or) d h = refl
-inside_is (node.Same n) d h = refl
-inside_is (node.Seq) d h = refl
-inside_is (node.If) d h = refl
-inside_is (node.While) d h = refl
-inside_is (node.Body) d h = refl
 inside_is (node.Recover n) d h = min-eq_left h
+inside_is k d h = refl
 
 -- What a rose leaves: its new nodes have their children, and its own is the last, at its depth.
 record Done (d n : ℕ) (before after : List Node) : Type 0 where
@@ -104,33 +82,11 @@ abbrev Below : ℕ → ℕ → Type 0
 Below d many = d + many ≤ 2 ^ 32 - 1
 
 inside_below : (k : NodeKind) (d many : ℕ) → Below d (suc many) → Below (depth_inside k d) many
-inside_below (node.Number n) d many h = omega (arith, h)
-inside_below (node.Truth n) d many h = omega (arith, h)
-inside_below (node.Text n) d many h = omega (arith, h)
-inside_below (node.Prim n) d many h = omega (arith, h)
-inside_below (node.This) d many h = omega (arith, h)
-inside_below (node.Local n) d many h = omega (arith, h)
-inside_below (node.Consume n) d many h = omega (arith, h)
-inside_below (node.Field n) d many h = omega (arith, h)
-inside_below (node.SetField n) d many h = omega (arith, h)
-inside_below (node.Define n) d many h = omega (arith, h)
-inside_below (node.Assign n) d many h = omega (arith, h)
-inside_below (node.New n) d many h = omega (arith, h)
-inside_below (node.Spawn n) d many h = omega (arith, h)
-inside_below (node.Call n) d many h = omega (arith, h)
-inside_below (node.Binary n) d many h = omega (arith, h)
-inside_below (node.Not) d many h = omega (arith, h)
-inside_below (node.And) d many h = omega (arith, h)
-inside_below (node.Or) d many h = omega (arith, h)
-inside_below (node.Same n) d many h = omega (arith, h)
-inside_below (node.Seq) d many h = omega (arith, h)
-inside_below (node.If) d many h = omega (arith, h)
-inside_below (node.While) d many h = omega (arith, h)
-inside_below (node.Body) d many h = omega (arith, h)
 inside_below (node.Recover n) d many h =
     let l : d + 1 ≤ 2 ^ 32 - 1 = omega (arith, h) in
     let e : deeper d ≡ d + 1 = min-eq_left l in
     omega (arith, e, h)
+inside_below k d many h = omega (arith, h)
 
 -- One more node after those inside it.
 close : (m : ℕ) (k : NodeKind) (s : Span) (d many : ℕ) (ks : List ℕ) (before mid : List Node) → d + 1 ≤ 2 ^ 32 - 1 → HasArity k many → AllDone (depth_inside k d) many ks before mid → New before (mid ++ node_of m k s d ks ∷ [])

@@ -99,29 +99,7 @@ tells z (node.Define n) d = elim (eqb_tells n z) [
   | inl p ↦ inl (ap node.Define p.1, ap one_if p.0)
   | inr p ↦ inr (λ e. p.1 (ap slot_in e), ap one_if p.0)
 ]
-tells z (node.Number n) d = inr (λ e. subst IsDefine (sym e) tt, refl)
-tells z (node.Truth n) d = inr (λ e. subst IsDefine (sym e) tt, refl)
-tells z (node.Text n) d = inr (λ e. subst IsDefine (sym e) tt, refl)
-tells z (node.Prim n) d = inr (λ e. subst IsDefine (sym e) tt, refl)
-tells z node.This d = inr (λ e. subst IsDefine (sym e) tt, refl)
-tells z (node.Local n) d = inr (λ e. subst IsDefine (sym e) tt, refl)
-tells z (node.Consume n) d = inr (λ e. subst IsDefine (sym e) tt, refl)
-tells z (node.Field n) d = inr (λ e. subst IsDefine (sym e) tt, refl)
-tells z (node.SetField n) d = inr (λ e. subst IsDefine (sym e) tt, refl)
-tells z (node.Assign n) d = inr (λ e. subst IsDefine (sym e) tt, refl)
-tells z (node.New n) d = inr (λ e. subst IsDefine (sym e) tt, refl)
-tells z (node.Spawn n) d = inr (λ e. subst IsDefine (sym e) tt, refl)
-tells z (node.Call n) d = inr (λ e. subst IsDefine (sym e) tt, refl)
-tells z (node.Binary n) d = inr (λ e. subst IsDefine (sym e) tt, refl)
-tells z node.Not d = inr (λ e. subst IsDefine (sym e) tt, refl)
-tells z node.And d = inr (λ e. subst IsDefine (sym e) tt, refl)
-tells z node.Or d = inr (λ e. subst IsDefine (sym e) tt, refl)
-tells z (node.Same n) d = inr (λ e. subst IsDefine (sym e) tt, refl)
-tells z node.Seq d = inr (λ e. subst IsDefine (sym e) tt, refl)
-tells z node.If d = inr (λ e. subst IsDefine (sym e) tt, refl)
-tells z node.While d = inr (λ e. subst IsDefine (sym e) tt, refl)
-tells z (node.Recover n) d = inr (λ e. subst IsDefine (sym e) tt, refl)
-tells z node.Body d = inr (λ e. subst IsDefine (sym e) tt, refl)
+tells z k d = inr (λ e. subst IsDefine (sym e) tt, refl)
 
 -- None of these nodes defines it.
 never : (z : ℕ) (xs : List Node) → node_times (has_slot z) xs ≡ 0 → (k : ℕ) (w : Node) → slice_get xs k ≡ Some w → w.kind ≡ node.Define z → ⊥
@@ -188,29 +166,7 @@ says z e (node.Define n) d = elim (eqb_tells n z) [
   ]
   | inr p ↦ inr (ap one_if (false_and (nat_eq n z) (nat_eq d e) p.0))
 ]
-says z e (node.Number n) d = inr refl
-says z e (node.Truth n) d = inr refl
-says z e (node.Text n) d = inr refl
-says z e (node.Prim n) d = inr refl
-says z e node.This d = inr refl
-says z e (node.Local n) d = inr refl
-says z e (node.Consume n) d = inr refl
-says z e (node.Field n) d = inr refl
-says z e (node.SetField n) d = inr refl
-says z e (node.Assign n) d = inr refl
-says z e (node.New n) d = inr refl
-says z e (node.Spawn n) d = inr refl
-says z e (node.Call n) d = inr refl
-says z e (node.Binary n) d = inr refl
-says z e node.Not d = inr refl
-says z e node.And d = inr refl
-says z e node.Or d = inr refl
-says z e (node.Same n) d = inr refl
-says z e node.Seq d = inr refl
-says z e node.If d = inr refl
-says z e node.While d = inr refl
-says z e (node.Recover n) d = inr refl
-says z e node.Body d = inr refl
+says z e k d = inr refl
 
 somewhere : (z e : ℕ) (xs : List Node) → 1 ≤ node_times (has_place z e) xs → Somewhere z e xs
 somewhere z e [] h = absurd (omega (arith, h))
