@@ -12,7 +12,7 @@ use Rattle.pc_masks.specs.{declared.mask.Mask.Mask, Masks.{same, first}}
 use Rattle.pc_ann.specs.{declared.annotation.Note.Note, declared.annotation.Ann.Ann, declared.annotation.Rule.Rule}
 use Rattle.pc_rules.specs.{declared.said.Said.Said, Parts.{through, type_of, one_child, goes_to}, Values.{same_cap, same_place, defined_type, defines}, Control.{start_set, starts_method, result_ok}, Rules.{says, said_by, IsSaid}}
 use Rattle.pc_valid.specs.{Words.{Ty, Masks, before}, Valid.KeepsWritten}
-use Rattle.pc_rules.proofs.{ByNumber.{slot_of, defined, define_says, body_says}, OneRule.{is_rule_at, define_rule, body_rule}, Bridge.by_number, Alike.{LooksAlike, slot_same, says_same, type_same, at_one}, Slotted.{slot_known, this_known}}
+use Rattle.pc_rules.proofs.{ByNumber.{slot_of, defined, define_says, body_says}, OneRule.{define_rule, body_rule}, Threads.is_rule_at, Bridge.by_number, Alike.{LooksAlike, slot_same, says_same, type_same, at_one}, Slotted.{slot_known, this_known}}
 use Rattle.pc_core.proofs.Homes.{home, home_method}
 
 -- ---- equalities

@@ -5,12 +5,11 @@ use Rattle.pc_caps.specs.{Tables.{view, sendable, sendable_form, plain, unalias,
 use Rattle.pc_caps.specs.declared.capability.Cap.TheVariants as cap
 use Rattle.pc_caps.specs.declared.capability.Form.TheVariants as form
 use Rattle.pc_tree.specs.{declared.kinds.Op.Op, Kinds.{none_entity, u64_entity, bool_entity, string_entity}}
-use Rattle.pc_core.specs.{declared.declarations.FieldInfo.FieldInfo, declared.declarations.Method.Method, declared.declarations.ParamInfo.ParamInfo, declared.nodes.Slot.Slot, declared.nodes.Node.Node, declared.nodes.NodeKind.NodeKind, CoreData.{CoreData, method_named}}
+use Rattle.pc_core.specs.{declared.declarations.FieldInfo.FieldInfo, declared.declarations.Method.Method, declared.declarations.ParamInfo.ParamInfo, declared.nodes.Slot.Slot, declared.nodes.Node.Node, CoreData.{CoreData, method_named}}
 use Rattle.pc_core.specs.declared.declarations.MethodKind.TheVariants as method
 use Rattle.pc_core.specs.declared.nodes.SlotKind.TheVariants as slot_kind
 use Rattle.pc_core.specs.declared.nodes.NodeKind.TheVariants as node
-use Rattle.pc_ann.specs.{declared.annotation.Note.Note, declared.annotation.Rule.Rule}
-use Rattle.pc_ann.specs.declared.annotation.Rule.TheVariants as rule
+use Rattle.pc_ann.specs.declared.annotation.Note.{Note}
 use Rattle.pc_masks.specs.Masks.{IsInMask, with_number, without_number, within, first}
 use Rattle.pc_rules.specs.{Parts.{slot_of, goes_to, readable, lower, constructs, full}, Values.{defined_type, old_value}, Fields.{field_of, own_field, own_old}, Calls.recovered_result, Operators.{is_arithmetic, is_comparison, is_equality, is_add, is_xor, meet_masks}, Control.{without_items, joined, recovered, start_set}}
 use Rattle.pc_valid.specs.Words.{Ty, Masks, Slots, before, masks_after, place}
@@ -394,42 +393,3 @@ pub record Body (core : CoreData) (own : Note) (ns : List Note) (x : Node) : Typ
   pub result : home.kind ≡ method.Fun → (v : Ty) × (child.ty ≡ Some v) × (lower core v home.result ≡ true)
   pub type : own.ty ≡ None
   pub masks : OneAfterOther ns (before own) (masks_after own)
-
--- ---- every rule
-
--- The note satisfies this rule for a node of this kind.
-abbrev pub Means : CoreData → Slots → Note → List Note → Node → Rule → NodeKind → Type 0
-Means core slots own ns x rule.Number (node.Number v) = Literal own u64_entity
-Means core slots own ns x rule.Truth (node.Truth v) = Literal own bool_entity
-Means core slots own ns x rule.Text (node.Text v) = Literal own string_entity
-Means core slots own ns x rule.Prim (node.Prim e) = Literal own e
-Means core slots own ns x rule.This node.This = This core slots own x
-Means core slots own ns x rule.Local (node.Local s) = Local core slots own x s
-Means core slots own ns x rule.Consume (node.Consume s) = Consume core slots own x s
-Means core slots own ns x rule.Get (node.Field name) = Get core own ns x name
-Means core slots own ns x rule.GetOwn (node.Field name) = GetOwn core own ns x name
-Means core slots own ns x rule.Put (node.SetField name) = Put core own ns x name
-Means core slots own ns x rule.PutOwn (node.SetField name) = PutOwn core own ns x name
-Means core slots own ns x rule.Define (node.Define s) = Define core slots own ns x s
-Means core slots own ns x rule.Assign (node.Assign s) = Assign core slots own ns x s
-Means core slots own ns x rule.New (node.New k) = New core own ns k
-Means core slots own ns x rule.Spawn (node.Spawn k) = Spawn core own ns k
-Means core slots own ns x rule.Call (node.Call name) = Call core own ns name
-Means core slots own ns x rule.CallRecover (node.Call name) = CallRecover core own ns name
-Means core slots own ns x rule.Send (node.Call name) = Send core own ns name
-Means core slots own ns x rule.Builtin (node.Call name) = Builtin core own ns name
-Means core slots own ns x rule.Arith (node.Binary o) = Arith own ns o
-Means core slots own ns x rule.Compare (node.Binary o) = Compare own ns o
-Means core slots own ns x rule.Equal (node.Binary o) = Equal own ns o
-Means core slots own ns x rule.Join (node.Binary o) = Join own ns o
-Means core slots own ns x rule.Logic (node.Binary o) = Xor own ns o
-Means core slots own ns x rule.Logic node.Not = Not own ns
-Means core slots own ns x rule.Lazy node.And = Lazy own ns
-Means core slots own ns x rule.Lazy node.Or = Lazy own ns
-Means core slots own ns x rule.Identity (node.Same v) = Identity own ns
-Means core slots own ns x rule.Seq node.Seq = Seq core own ns x
-Means core slots own ns x rule.If node.If = If core own ns
-Means core slots own ns x rule.While node.While = While own ns
-Means core slots own ns x rule.Recover (node.Recover k) = Recover own ns k
-Means core slots own ns x rule.Body node.Body = Body core own ns x
-Means core slots own ns x r k = ⊥

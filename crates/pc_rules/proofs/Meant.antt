@@ -253,11 +253,7 @@ module _ (core : CoreData) (slots : Slots) (own : Note) (ns : List Note) (x : No
 
   cap_self : (k : Cap) → same_cap k k ≡ true
   cap_self cap.Iso = refl
-  cap_self cap.Trn = refl
-  cap_self cap.Ref = refl
-  cap_self cap.Val = refl
-  cap_self cap.Box = refl
-  cap_self cap.Tag = refl
+  cap_self k = refl
 
   place_same : (a b : ℕ × Cap) → a ≡ b → same_place a b ≡ true
   place_same a b e = subst (λ c. same_place a c ≡ true) e (and_from (nat_eq a.0 a.0) (same_cap a.1 a.1) (eq-eqb a.0 a.0 refl) (cap_self a.1))

@@ -1,21 +1,19 @@
--- The computed rules conclude what the records of the rules require, in both directions: calls, control and every rule.
-use Rattle.std.specs.Prelude.{◌≡◌, ◌↔◌, ◌⊎◌, ℕ, suc, ◌+◌, ◌-◌, Bool, true, cond, ◌&&◌, ◌||◌, not, nat_eq, List, [], ◌∷◌, ◌++◌, length, take, codes, Option, Some, None, slice_get, refl}
+-- The computed rules conclude what the records of the rules require, in both directions: calls and control.
+use Rattle.std.specs.Prelude.{◌≡◌, ◌⊎◌, ℕ, suc, ◌+◌, ◌-◌, Bool, true, cond, ◌&&◌, ◌||◌, not, nat_eq, List, [], ◌∷◌, ◌++◌, length, take, codes, Option, Some, None, slice_get, refl}
 use Rattle.std.proofs.{Common.{inl, inr, ap, sym, subst, ◌∙◌, arith}, lemmas.Option.{same_Some, none-some}, lemmas.Bool.{and_parts, eqb-true, eq-eqb, and_from, or_cases, or_left, or_right}}
 use Rattle.pc_caps.specs.{Computed.fits, Tables.{sendable, sendable_form}, declared.capability.Cap.Cap, declared.capability.Form.Form}
 use Rattle.pc_caps.specs.declared.capability.Cap.TheVariants as cap
 use Rattle.pc_caps.specs.declared.capability.Form.TheVariants as form
 use Rattle.pc_tree.specs.declared.kinds.Op.{Op}
-use Rattle.pc_core.specs.{declared.declarations.Method.Method, declared.declarations.MethodKind.MethodKind, declared.declarations.ParamInfo.ParamInfo, declared.nodes.Node.Node, declared.nodes.NodeKind.NodeKind, CoreData.{CoreData, method_named}}
+use Rattle.pc_core.specs.{declared.declarations.Method.Method, declared.declarations.MethodKind.MethodKind, declared.declarations.ParamInfo.ParamInfo, declared.nodes.Node.Node, CoreData.{CoreData, method_named}}
 use Rattle.pc_core.specs.declared.declarations.MethodKind.TheVariants as method
-use Rattle.pc_core.specs.declared.nodes.NodeKind.TheVariants as node
 use Rattle.pc_base.proofs.{Options.{bind_some, kept, bind_is}, Bools.false_true}
 use Rattle.pc_base.specs.Lists.{◌>>=◌}
-use Rattle.pc_ann.specs.{declared.annotation.Note.Note, declared.annotation.Rule.Rule}
-use Rattle.pc_ann.specs.declared.annotation.Rule.TheVariants as rule
+use Rattle.pc_ann.specs.declared.annotation.Note.{Note}
 use Rattle.pc_masks.specs.Masks.{same, within, first}
-use Rattle.pc_rules.specs.{Parts.{says_of, starts, lower, reads_as, goes_to, through_notes, one_note, two_notes, three_notes, last_note, one_type, two_types}, Calls.{argument_goes, arguments_go, arguments, called, is_function, is_behaviour, calls, call_says, new_says, spawn_says, is_isolated, is_lent, argument_sendable, arguments_sendable, lends, recovers, recovered_result, callrecover_says, sends, send_says, same_text, has_text, has_string, builtin_says}, Operators.{is_arithmetic, is_comparison, is_equality, is_add, is_xor, both_read_as, comparable, value_says, arith_says, compare_says, equal_says, join_says, xor_says, meet_masks}, Control.{without_items, seq_says, joined, is_condition, branch_masks, if_says, loop_masks, while_says, recovered, recover_says, start_set, starts_method, gives_result, result_ok, body_says}, Rules.{said_by, rule_says}}
-use Rattle.pc_valid.specs.Words.{Ty, Slots, before, masks_after}
-use Rattle.pc_rules.proofs.{Meaning.{OneAfterOther, Reads, BothRead, Go, Sendable, Called, New, Spawn, Call, CallRecover, Send, Builtin, Arith, Compare, Equal, Join, Xor, Seq, If, While, Recover, Body, Means}, Threads.starts_so, Agreeing.same_mask, Meant.{said_parts, parts_said, is_false, is_starts, mask_same, one_is, two_are, three_are, one_typed, typed_one, reads_so, so_reads, ends, ended, ends_if, ended_if, ends_at, ended_at, tested_means, means_tested, both_read, read_both, literal_means, means_literal, this_means, means_this, local_means, means_local, consume_means, means_consume, define_means, means_define, assign_means, means_assign, get_means, means_get, getown_means, means_getown, put_means, means_put, putown_means, means_putown, not_means, means_not, identity_means, means_identity, lazy_means, means_lazy}}
+use Rattle.pc_rules.specs.{Parts.{says_of, starts, lower, reads_as, goes_to, through_notes, one_note, two_notes, three_notes, last_note, one_type, two_types}, Calls.{argument_goes, arguments_go, arguments, called, is_function, is_behaviour, calls, call_says, new_says, spawn_says, is_isolated, is_lent, argument_sendable, arguments_sendable, lends, recovers, recovered_result, callrecover_says, sends, send_says, same_text, has_text, has_string, builtin_says}, Operators.{is_arithmetic, is_comparison, is_equality, is_add, is_xor, both_read_as, comparable, value_says, arith_says, compare_says, equal_says, join_says, xor_says, meet_masks}, Control.{without_items, seq_says, joined, is_condition, branch_masks, if_says, loop_masks, while_says, recovered, recover_says, start_set, starts_method, gives_result, result_ok, body_says}, Rules.said_by}
+use Rattle.pc_valid.specs.Words.{Ty, before, masks_after}
+use Rattle.pc_rules.proofs.{Meaning.{OneAfterOther, Reads, BothRead, Go, Sendable, Called, New, Spawn, Call, CallRecover, Send, Builtin, Arith, Compare, Equal, Join, Xor, Seq, If, While, Recover, Body}, Threads.starts_so, Agreeing.same_mask, Meant.{said_parts, parts_said, is_false, is_starts, mask_same, one_is, two_are, three_are, one_typed, typed_one, reads_so, so_reads, ends, ended, ends_if, ended_if, ends_at, ended_at, tested_means, means_tested, both_read, read_both}}
 
 -- ---- arguments
 
@@ -481,80 +479,3 @@ module _ (own : Note) (ns : List Note) (o : Op) where
 
   pub means_equal : Equal own ns o → equal_says ns o (before own) ≡ Some (said_by own)
   means_equal r = let b = is_comparable r.both in means_asked (is_equality o) comparable 2 b.0 b.1 r.operator b.2 r.type r.masks
-
--- ---- every rule
-
-pub said_is_meant : (core : CoreData) (slots : Slots) (own : Note) (ns : List Note) (x : Node) (r : Rule) (k : NodeKind) → rule_says core slots ns x (before own) r k ≡ Some (said_by own) → Means core slots own ns x r k
-said_is_meant core slots own ns x rule.Number (node.Number v) h = literal_means own 1 h
-said_is_meant core slots own ns x rule.Truth (node.Truth v) h = literal_means own 2 h
-said_is_meant core slots own ns x rule.Text (node.Text v) h = literal_means own 3 h
-said_is_meant core slots own ns x rule.Prim (node.Prim e) h = literal_means own e h
-said_is_meant core slots own ns x rule.This node.This h = this_means core slots own ns x h
-said_is_meant core slots own ns x rule.Local (node.Local s) h = local_means core slots own ns x s h
-said_is_meant core slots own ns x rule.Consume (node.Consume s) h = consume_means core slots own ns x s h
-said_is_meant core slots own ns x rule.Get (node.Field name) h = get_means core own ns x name h
-said_is_meant core slots own ns x rule.GetOwn (node.Field name) h = getown_means core own ns x name h
-said_is_meant core slots own ns x rule.Put (node.SetField name) h = put_means core own ns x name h
-said_is_meant core slots own ns x rule.PutOwn (node.SetField name) h = putown_means core own ns x name h
-said_is_meant core slots own ns x rule.Define (node.Define s) h = define_means core slots own ns x s h
-said_is_meant core slots own ns x rule.Assign (node.Assign s) h = assign_means core slots own ns x s h
-said_is_meant core slots own ns x rule.New (node.New k) h = new_means core own ns k h
-said_is_meant core slots own ns x rule.Spawn (node.Spawn k) h = spawn_means core own ns k h
-said_is_meant core slots own ns x rule.Call (node.Call name) h = call_means core own ns name h
-said_is_meant core slots own ns x rule.CallRecover (node.Call name) h = callrecover_means core own ns name h
-said_is_meant core slots own ns x rule.Send (node.Call name) h = send_means core own ns name h
-said_is_meant core slots own ns x rule.Builtin (node.Call name) h = builtin_means core own ns name h
-said_is_meant core slots own ns x rule.Arith (node.Binary o) h = arith_means own ns o h
-said_is_meant core slots own ns x rule.Compare (node.Binary o) h = compare_means own ns o h
-said_is_meant core slots own ns x rule.Equal (node.Binary o) h = equal_means own ns o h
-said_is_meant core slots own ns x rule.Join (node.Binary o) h = join_means own ns o h
-said_is_meant core slots own ns x rule.Logic (node.Binary o) h = xor_means own ns o h
-said_is_meant core slots own ns x rule.Logic node.Not h = not_means own ns h
-said_is_meant core slots own ns x rule.Lazy node.And h = lazy_means own ns h
-said_is_meant core slots own ns x rule.Lazy node.Or h = lazy_means own ns h
-said_is_meant core slots own ns x rule.Identity (node.Same v) h = identity_means own ns h
-said_is_meant core slots own ns x rule.Seq node.Seq h = seq_means core own ns x h
-said_is_meant core slots own ns x rule.If node.If h = if_means core own ns h
-said_is_meant core slots own ns x rule.While node.While h = while_means core own ns h
-said_is_meant core slots own ns x rule.Recover (node.Recover c) h = recover_means core own ns c h
-said_is_meant core slots own ns x rule.Body node.Body h = body_means core own ns x h
-said_is_meant core slots own ns x r k h = absurd (none-some (said_by own) h)
-
-pub meant_is_said : (core : CoreData) (slots : Slots) (own : Note) (ns : List Note) (x : Node) (r : Rule) (k : NodeKind) → Means core slots own ns x r k → rule_says core slots ns x (before own) r k ≡ Some (said_by own)
-meant_is_said core slots own ns x rule.Number (node.Number v) m = means_literal own 1 m
-meant_is_said core slots own ns x rule.Truth (node.Truth v) m = means_literal own 2 m
-meant_is_said core slots own ns x rule.Text (node.Text v) m = means_literal own 3 m
-meant_is_said core slots own ns x rule.Prim (node.Prim e) m = means_literal own e m
-meant_is_said core slots own ns x rule.This node.This m = means_this core slots own ns x m
-meant_is_said core slots own ns x rule.Local (node.Local s) m = means_local core slots own ns x s m
-meant_is_said core slots own ns x rule.Consume (node.Consume s) m = means_consume core slots own ns x s m
-meant_is_said core slots own ns x rule.Get (node.Field name) m = means_get core own ns x name m
-meant_is_said core slots own ns x rule.GetOwn (node.Field name) m = means_getown core own ns x name m
-meant_is_said core slots own ns x rule.Put (node.SetField name) m = means_put core own ns x name m
-meant_is_said core slots own ns x rule.PutOwn (node.SetField name) m = means_putown core own ns x name m
-meant_is_said core slots own ns x rule.Define (node.Define s) m = means_define core slots own ns x s m
-meant_is_said core slots own ns x rule.Assign (node.Assign s) m = means_assign core slots own ns x s m
-meant_is_said core slots own ns x rule.New (node.New k) m = means_new core own ns k m
-meant_is_said core slots own ns x rule.Spawn (node.Spawn k) m = means_spawn core own ns k m
-meant_is_said core slots own ns x rule.Call (node.Call name) m = means_call core own ns name m
-meant_is_said core slots own ns x rule.CallRecover (node.Call name) m = means_callrecover core own ns name m
-meant_is_said core slots own ns x rule.Send (node.Call name) m = means_send core own ns name m
-meant_is_said core slots own ns x rule.Builtin (node.Call name) m = means_builtin core own ns name m
-meant_is_said core slots own ns x rule.Arith (node.Binary o) m = means_arith own ns o m
-meant_is_said core slots own ns x rule.Compare (node.Binary o) m = means_compare own ns o m
-meant_is_said core slots own ns x rule.Equal (node.Binary o) m = means_equal own ns o m
-meant_is_said core slots own ns x rule.Join (node.Binary o) m = means_join own ns o m
-meant_is_said core slots own ns x rule.Logic (node.Binary o) m = means_xor own ns o m
-meant_is_said core slots own ns x rule.Logic node.Not m = means_not own ns m
-meant_is_said core slots own ns x rule.Lazy node.And m = means_lazy own ns m
-meant_is_said core slots own ns x rule.Lazy node.Or m = means_lazy own ns m
-meant_is_said core slots own ns x rule.Identity (node.Same v) m = means_identity own ns m
-meant_is_said core slots own ns x rule.Seq node.Seq m = means_seq core own ns x m
-meant_is_said core slots own ns x rule.If node.If m = means_if core own ns m
-meant_is_said core slots own ns x rule.While node.While m = means_while core own ns m
-meant_is_said core slots own ns x rule.Recover (node.Recover c) m = means_recover core own ns c m
-meant_is_said core slots own ns x rule.Body node.Body m = means_body core own ns x m
-meant_is_said core slots own ns x r k m = absurd m
-
-pub rules_are_records : (core : CoreData) (slots : Slots) (own : Note) (ns : List Note) (x : Node) (r : Rule) (k : NodeKind) → (rule_says core slots ns x (before own) r k ≡ Some (said_by own)) ↔ Means core slots own ns x r k
-rules_are_records core slots own ns x r k = (said_is_meant core slots own ns x r k, meant_is_said core slots own ns x r k)

@@ -1,19 +1,19 @@
--- At most one rule applies to a node, by its kind, its children and the method that it calls.
+-- Which rule of calls and of operators applies to a node: at most one, by its children and the method that it calls.
 use Rattle.std.specs.Prelude.{◌≡◌, ℕ, ◌+◌, Bool, true, false, cond, ◌&&◌, not, List, [], ◌∷◌, take, drop, Option, Some, None, nat_eq, slice_get, slice_range, codes, if◌then◌else◌, refl}
 use Rattle.std.proofs.{Common.{inl, inr, ap, sym, ◌∙◌}, lemmas.Option.none-some, lemmas.Bool.{and_parts, eqb-true, not-true, or_cases}}
 use Rattle.pc_caps.specs.Computed.{fits}
 use Rattle.pc_tree.specs.declared.kinds.Op.{Op}
 use Rattle.pc_tree.specs.declared.kinds.Op.TheVariants as op
-use Rattle.pc_core.specs.{declared.declarations.EntityDef.EntityDef, declared.declarations.Method.Method, declared.declarations.MethodKind.MethodKind, declared.nodes.Node.Node, declared.nodes.NodeKind.NodeKind, CoreData.{CoreData, own_methods, method_named}, Parts.method_name, Formed.Formed}
+use Rattle.pc_core.specs.{declared.declarations.EntityDef.EntityDef, declared.declarations.Method.Method, declared.declarations.MethodKind.MethodKind, declared.nodes.Node.Node, CoreData.{CoreData, own_methods, method_named}, Parts.method_name, Formed.Formed}
 use Rattle.pc_core.specs.declared.declarations.MethodKind.TheVariants as method
 use Rattle.pc_core.specs.declared.nodes.NodeKind.TheVariants as node
 use Rattle.pc_base.specs.Lists.{◌>>=◌, place_of}
-use Rattle.pc_base.proofs.{Options.{bind_some, kept, kept_otherwise, bind_is}, Bools.false_true}
+use Rattle.pc_base.proofs.{Options.{bind_some, kept, bind_is}, Bools.false_true}
 use Rattle.pc_ann.specs.{declared.annotation.Ann.Ann, declared.annotation.Rule.Rule}
 use Rattle.pc_ann.specs.declared.annotation.Rule.TheVariants as rule
-use Rattle.pc_rules.specs.{declared.said.Said.Said, Parts.{reads_as, readable, through, type_of, one_child, last_child}, Calls.{is_function, is_behaviour, is_isolated, is_lent, lends, same_text, has_text, has_string}, Operators.{is_arithmetic, is_comparison, is_equality, is_add, is_xor, both_read_as, comparable}}
+use Rattle.pc_rules.specs.{declared.said.Said.Said, Parts.{reads_as, readable, through, type_of, one_child, last_child}, Calls.{is_function, is_behaviour, is_isolated, is_lent, lends, same_text, has_text, has_string}, Operators.{is_arithmetic, is_comparison, is_equality, is_add, is_xor, both_read_as}}
 use Rattle.pc_valid.specs.Words.{Ty, Masks}
-use Rattle.pc_rules.proofs.ByNumber.{two_types, define_says, body_says, incomplete, read_says, own_read_says, write_says, own_write_says, arguments, arguments_go, arguments_sendable, called, calls, call_says, recovers, callrecover_says, sends, send_says, builtin_says, value_says, says}
+use Rattle.pc_rules.proofs.ByNumber.{two_types, define_says, body_says, arguments, arguments_go, arguments_sendable, called, calls, call_says, recovers, callrecover_says, sends, send_says, builtin_says, value_says, says}
 
 -- ---- which one
 
@@ -40,33 +40,6 @@ operator_rule op.Ne vs = rule.Equal
 operator_rule op.Xor vs = rule.Logic
 operator_rule o vs = rule.Arith
 
--- The rule that can apply to node x.
-abbrev pub rule_at : CoreData → Ann → Node → NodeKind → Rule
-rule_at core ann x (node.Number v) = rule.Number
-rule_at core ann x (node.Truth v) = rule.Truth
-rule_at core ann x (node.Text v) = rule.Text
-rule_at core ann x (node.Prim e) = rule.Prim
-rule_at core ann x node.This = rule.This
-rule_at core ann x (node.Local s) = rule.Local
-rule_at core ann x (node.Consume s) = rule.Consume
-rule_at core ann x (node.Field name) = if incomplete core ann x then rule.GetOwn else rule.Get
-rule_at core ann x (node.SetField name) = if incomplete core ann x then rule.PutOwn else rule.Put
-rule_at core ann x (node.Define s) = rule.Define
-rule_at core ann x (node.Assign s) = rule.Assign
-rule_at core ann x (node.New k) = rule.New
-rule_at core ann x (node.Spawn k) = rule.Spawn
-rule_at core ann x (node.Call name) = call_rule core (called core ann x name)
-rule_at core ann x (node.Binary o) = operator_rule o (two_types ann x.children)
-rule_at core ann x node.Not = rule.Logic
-rule_at core ann x node.And = rule.Lazy
-rule_at core ann x node.Or = rule.Lazy
-rule_at core ann x (node.Same v) = rule.Identity
-rule_at core ann x node.Seq = rule.Seq
-rule_at core ann x node.If = rule.If
-rule_at core ann x node.While = rule.While
-rule_at core ann x (node.Recover k) = rule.Recover
-rule_at core ann x node.Body = rule.Body
-
 -- ---- calls
 
 no_behaviour : (k : MethodKind) → is_function k ≡ true → is_behaviour k ≡ false
@@ -80,7 +53,7 @@ is_called core o i f b c e g h k =
     ∙ ap (λ t. cond b rule.Send (cond t rule.Call rule.CallRecover)) k
 
 module _ (core : CoreData) (ann : Ann) (x : Node) (m : Masks) (q : Said) where
-  is_call : (name : ℕ) → call_says core ann x name m ≡ Some q → rule.Call ≡ call_rule core (called core ann x name)
+  pub is_call : (name : ℕ) → call_says core ann x name m ≡ Some q → rule.Call ≡ call_rule core (called core ann x name)
   is_call name e =
       let a = bind_some (called core ann x name) _ q e in
       let b = bind_some (slice_get core.methods a.0.1) _ q a.2 in
@@ -90,7 +63,7 @@ module _ (core : CoreData) (ann : Ann) (x : Node) (m : Masks) (q : Said) where
       let r = and_parts (arguments_go core ann (arguments x.children) b.0.params) (fits a.0.0.1 b.0.receiver) p.1 in
       sym (is_called core (called core ann x name) a.0 b.0 false true a.1 b.1 (no_behaviour b.0.kind p.0) r.1)
 
-  is_callrecover : (name : ℕ) → callrecover_says core ann x name m ≡ Some q → rule.CallRecover ≡ call_rule core (called core ann x name)
+  pub is_callrecover : (name : ℕ) → callrecover_says core ann x name m ≡ Some q → rule.CallRecover ≡ call_rule core (called core ann x name)
   is_callrecover name e =
       let a = bind_some (called core ann x name) _ q e in
       let b = bind_some (slice_get core.methods a.0.1) _ q a.2 in
@@ -102,7 +75,7 @@ module _ (core : CoreData) (ann : Ann) (x : Node) (m : Masks) (q : Said) where
       let n = and_parts (not (fits a.0.0.1 b.0.receiver)) (is_isolated a.0.0.1 && is_lent b.0.receiver) l.0 in
       sym (is_called core (called core ann x name) a.0 b.0 false false a.1 b.1 (no_behaviour b.0.kind f.0) (not-true (fits a.0.0.1 b.0.receiver) n.0))
 
-  is_send : (name : ℕ) → send_says core ann x name m ≡ Some q → rule.Send ≡ call_rule core (called core ann x name)
+  pub is_send : (name : ℕ) → send_says core ann x name m ≡ Some q → rule.Send ≡ call_rule core (called core ann x name)
   is_send name e =
       let a = bind_some (called core ann x name) _ q e in
       let b = bind_some (slice_get core.methods a.0.1) _ q a.2 in
@@ -141,7 +114,7 @@ only_child (a ∷ b ∷ cs) c e = absurd (none-some c e)
 abbrev called_as : Ty → ℕ → Option (Ty × ℕ)
 called_as v k = Some (v, k)
 
-is_builtin : (core : CoreData) (ann : Ann) (x : Node) (m : Masks) (q : Said) (name : ℕ) → Formed core → builtin_says core ann x name m ≡ Some q → rule.Builtin ≡ call_rule core (called core ann x name)
+pub is_builtin : (core : CoreData) (ann : Ann) (x : Node) (m : Masks) (q : Said) (name : ℕ) → Formed core → builtin_says core ann x name m ≡ Some q → rule.Builtin ≡ call_rule core (called core ann x name)
 is_builtin core ann x m q name formed e =
     let a = bind_some (one_child x.children) _ q e in
     let b = bind_some (type_of ann a.0) _ q a.2 in
@@ -164,7 +137,7 @@ not_text vs e =
     let n = and_parts (nat_eq vs.0.0 1) (readable vs.0.1) p.0 in
     ap (λ k. (nat_eq k 3 && readable vs.0.1) && reads_as 3 vs.1) (eqb-true vs.0.0 1 n.0)
 
-is_arith : (o : Op) (ts : Option (Ty × Ty)) (vs : Ty × Ty) → ts ≡ Some vs → is_arithmetic o ≡ true → both_read_as 1 vs ≡ true → rule.Arith ≡ operator_rule o ts
+pub is_arith : (o : Op) (ts : Option (Ty × Ty)) (vs : Ty × Ty) → ts ≡ Some vs → is_arithmetic o ≡ true → both_read_as 1 vs ≡ true → rule.Arith ≡ operator_rule o ts
 is_arith op.Add ts vs e a b = sym (ap add_rule e ∙ ap (λ t. cond t rule.Join rule.Arith) (not_text vs b))
 is_arith op.Sub ts vs e a b = refl
 is_arith op.Mul ts vs e a b = refl
@@ -172,71 +145,33 @@ is_arith op.Div ts vs e a b = refl
 is_arith op.Rem ts vs e a b = refl
 is_arith o ts vs e a b = absurd (false_true a)
 
-is_join : (o : Op) (ts : Option (Ty × Ty)) (vs : Ty × Ty) → ts ≡ Some vs → is_add o ≡ true → both_read_as 3 vs ≡ true → rule.Join ≡ operator_rule o ts
+pub is_join : (o : Op) (ts : Option (Ty × Ty)) (vs : Ty × Ty) → ts ≡ Some vs → is_add o ≡ true → both_read_as 3 vs ≡ true → rule.Join ≡ operator_rule o ts
 is_join op.Add ts vs e a b = sym (ap add_rule e ∙ ap (λ t. cond t rule.Join rule.Arith) b)
 is_join o ts vs e a b = absurd (false_true a)
 
-is_compare : (o : Op) (ts : Option (Ty × Ty)) → is_comparison o ≡ true → rule.Compare ≡ operator_rule o ts
+pub is_compare : (o : Op) (ts : Option (Ty × Ty)) → is_comparison o ≡ true → rule.Compare ≡ operator_rule o ts
 is_compare op.Lt ts a = refl
 is_compare op.Le ts a = refl
 is_compare op.Gt ts a = refl
 is_compare op.Ge ts a = refl
 is_compare o ts a = absurd (false_true a)
 
-is_equal : (o : Op) (ts : Option (Ty × Ty)) → is_equality o ≡ true → rule.Equal ≡ operator_rule o ts
+pub is_equal : (o : Op) (ts : Option (Ty × Ty)) → is_equality o ≡ true → rule.Equal ≡ operator_rule o ts
 is_equal op.Eq ts a = refl
 is_equal op.Ne ts a = refl
 is_equal o ts a = absurd (false_true a)
 
-is_logic : (o : Op) (ts : Option (Ty × Ty)) → is_xor o ≡ true → rule.Logic ≡ operator_rule o ts
+pub is_logic : (o : Op) (ts : Option (Ty × Ty)) → is_xor o ≡ true → rule.Logic ≡ operator_rule o ts
 is_logic op.Xor ts a = refl
 is_logic o ts a = absurd (false_true a)
 
 -- What an operator's rule requires of the operator, and of the types of both sides.
-asked : (ann : Ann) (x : Node) (m : Masks) (q : Said) (e : ℕ) (a : Bool) (t : Ty × Ty → Bool) → (two_types ann x.children >>= λ v. cond (a && t v) (value_says e ann x m) None) ≡ Some q → (vs : Ty × Ty) × (two_types ann x.children ≡ Some vs) × (a ≡ true) × (t vs ≡ true)
+pub asked : (ann : Ann) (x : Node) (m : Masks) (q : Said) (e : ℕ) (a : Bool) (t : Ty × Ty → Bool) → (two_types ann x.children >>= λ v. cond (a && t v) (value_says e ann x m) None) ≡ Some q → (vs : Ty × Ty) × (two_types ann x.children ≡ Some vs) × (a ≡ true) × (t vs ≡ true)
 asked ann x m q e a t h =
     let v = bind_some (two_types ann x.children) _ q h in
     let k = kept (a && t v.0) (value_says e ann x m) q v.2 in
     let p = and_parts a (t v.0) k.0 in
     (v.0, v.1, p.0, p.1)
-
--- ---- every rule
-
-pub is_rule_at : (core : CoreData) (ann : Ann) (x : Node) (m : Masks) (r : Rule) (k : NodeKind) (q : Said) → Formed core → says core ann x m r k ≡ Some q → r ≡ rule_at core ann x k
-is_rule_at core ann x m rule.Number (node.Number v) q f e = refl
-is_rule_at core ann x m rule.Truth (node.Truth v) q f e = refl
-is_rule_at core ann x m rule.Text (node.Text v) q f e = refl
-is_rule_at core ann x m rule.Prim (node.Prim v) q f e = refl
-is_rule_at core ann x m rule.This node.This q f e = refl
-is_rule_at core ann x m rule.Local (node.Local s) q f e = refl
-is_rule_at core ann x m rule.Consume (node.Consume s) q f e = refl
-is_rule_at core ann x m rule.Get (node.Field name) q f e = sym (ap (λ t. cond t rule.GetOwn rule.Get) (kept_otherwise (incomplete core ann x) (read_says core ann x name m) q e).0)
-is_rule_at core ann x m rule.GetOwn (node.Field name) q f e = sym (ap (λ t. cond t rule.GetOwn rule.Get) (kept (incomplete core ann x) (own_read_says core ann x name m) q e).0)
-is_rule_at core ann x m rule.Put (node.SetField name) q f e = sym (ap (λ t. cond t rule.PutOwn rule.Put) (kept_otherwise (incomplete core ann x) (write_says core ann x name m) q e).0)
-is_rule_at core ann x m rule.PutOwn (node.SetField name) q f e = sym (ap (λ t. cond t rule.PutOwn rule.Put) (kept (incomplete core ann x) (own_write_says core ann x name m) q e).0)
-is_rule_at core ann x m rule.Define (node.Define s) q f e = refl
-is_rule_at core ann x m rule.Assign (node.Assign s) q f e = refl
-is_rule_at core ann x m rule.New (node.New k) q f e = refl
-is_rule_at core ann x m rule.Spawn (node.Spawn k) q f e = refl
-is_rule_at core ann x m rule.Call (node.Call name) q f e = is_call core ann x m q name e
-is_rule_at core ann x m rule.CallRecover (node.Call name) q f e = is_callrecover core ann x m q name e
-is_rule_at core ann x m rule.Send (node.Call name) q f e = is_send core ann x m q name e
-is_rule_at core ann x m rule.Builtin (node.Call name) q f e = is_builtin core ann x m q name f e
-is_rule_at core ann x m rule.Arith (node.Binary o) q f e = let a = asked ann x m q 1 (is_arithmetic o) (both_read_as 1) e in is_arith o (two_types ann x.children) a.0 a.1 a.2 a.3
-is_rule_at core ann x m rule.Compare (node.Binary o) q f e = let a = asked ann x m q 2 (is_comparison o) (both_read_as 1) e in is_compare o (two_types ann x.children) a.2
-is_rule_at core ann x m rule.Equal (node.Binary o) q f e = let a = asked ann x m q 2 (is_equality o) comparable e in is_equal o (two_types ann x.children) a.2
-is_rule_at core ann x m rule.Join (node.Binary o) q f e = let a = asked ann x m q 3 (is_add o) (both_read_as 3) e in is_join o (two_types ann x.children) a.0 a.1 a.2 a.3
-is_rule_at core ann x m rule.Logic (node.Binary o) q f e = let a = asked ann x m q 2 (is_xor o) (both_read_as 2) e in is_logic o (two_types ann x.children) a.2
-is_rule_at core ann x m rule.Logic node.Not q f e = refl
-is_rule_at core ann x m rule.Lazy node.And q f e = refl
-is_rule_at core ann x m rule.Lazy node.Or q f e = refl
-is_rule_at core ann x m rule.Identity (node.Same v) q f e = refl
-is_rule_at core ann x m rule.Seq node.Seq q f e = refl
-is_rule_at core ann x m rule.If node.If q f e = refl
-is_rule_at core ann x m rule.While node.While q f e = refl
-is_rule_at core ann x m rule.Recover (node.Recover k) q f e = refl
-is_rule_at core ann x m rule.Body node.Body q f e = refl
-is_rule_at core ann x m r k q f e = absurd (none-some q e)
 
 -- ---- the rule of a definition and of a body
 

@@ -1,6 +1,6 @@
 -- Each record of the rules, and its counterpart in terms of what the rules compute.
 use Rattle.std.specs.Prelude.{◌≡◌, ◌⊎◌, ◌↔◌, ℕ, Bool, true, false, List, Option, Some, None, refl}
-use Rattle.std.proofs.{Common.{inl, inr, ap, sym, subst, ◌∙◌}, lemmas.Option.same_Some, lemmas.Bool.{and_parts, and_from}}
+use Rattle.std.proofs.{Common.{inl, inr, ap, sym, subst, ◌∙◌}, lemmas.Option.{same_Some, none-some}, lemmas.Bool.{and_parts, and_from}}
 use Rattle.pc_caps.specs.{Tables.{unalias, enters, sendable_form}, Computed.fits, declared.capability.Cap.Cap, declared.capability.Form.Form}
 use Rattle.pc_caps.specs.declared.capability.Form.TheVariants as form
 use Rattle.pc_tree.specs.declared.kinds.Op.{Op}
@@ -11,9 +11,9 @@ use Rattle.pc_base.proofs.Bools.{false_true}
 use Rattle.pc_ann.specs.{declared.annotation.Note.Note, declared.annotation.Rule.Rule}
 use Rattle.pc_ann.specs.declared.annotation.Rule.TheVariants as rule
 use Rattle.pc_masks.specs.{declared.mask.Mask.Mask, Masks.has, MaskLaws.within_bits}
-use Rattle.pc_rules.specs.{Operators.is_equality, Control.without_items, Statements.SaysWhatIsMeant}
+use Rattle.pc_rules.specs.{Operators.is_equality, Control.without_items, Rules.{rule_says, said_by}, Statements.SaysWhatIsMeant}
 use Rattle.pc_rules.proofs.Meaning as mirror
-use Rattle.pc_rules.proofs.{MeantCalls.rules_are_records, RecordWords.{order_iff, sendable_iff, arithmetic_iff, comparison_iff, equality_iff, add_iff, xor_iff, ends_to, to_ends, lower_iff, fits_iff, goes_iff, reads_iff, choice, chosen, joined_to, to_joined, recovers_to, to_recovers, all_set_iff, starts_to, to_starts, slot_to, to_slot, defined_to, to_defined, field_to, to_field, own_at, at_own, gives_up, go_to, to_go, called_to, to_called, incomplete_to, to_incomplete}}
+use Rattle.pc_rules.proofs.{Meant.{literal_means, means_literal, this_means, means_this, local_means, means_local, consume_means, means_consume, get_means, means_get, getown_means, means_getown, put_means, means_put, putown_means, means_putown, define_means, means_define, assign_means, means_assign, not_means, means_not, lazy_means, means_lazy, identity_means, means_identity}, MeantCalls.{new_means, means_new, spawn_means, means_spawn, call_means, means_call, callrecover_means, means_callrecover, send_means, means_send, builtin_means, means_builtin, arith_means, means_arith, compare_means, means_compare, equal_means, means_equal, join_means, means_join, xor_means, means_xor, seq_means, means_seq, if_means, means_if, while_means, means_while, recover_means, means_recover, body_means, means_body}, RecordWords.{order_iff, sendable_iff, arithmetic_iff, comparison_iff, equality_iff, add_iff, xor_iff, ends_to, to_ends, lower_iff, fits_iff, goes_iff, reads_iff, choice, chosen, joined_to, to_joined, recovers_to, to_recovers, all_set_iff, starts_to, to_starts, slot_to, to_slot, defined_to, to_defined, field_to, to_field, own_at, at_own, gives_up, go_to, to_go, called_to, to_called, incomplete_to, to_incomplete}}
 use Rattle.pc_valid.specs.Words.{Masks, masks_after, Ty, ReadsValue, Slots, before, AllSet}
 use Rattle.pc_valid.specs.Valid as spec
 
@@ -28,6 +28,10 @@ pair a b = (a, b)
 
 both_masks : (a b : Mask) (c d : Mask) → a ≡ b → c ≡ d → ◌≡◌ {A = Masks} (a, c) (b, d)
 both_masks a b c d e g = ap (λ (m : Mask). pair m c) e ∙ ap (λ (m : Mask). pair b m) g
+
+-- What is computed and what the record says, by way of the step between them.
+both_ways : {said step record_holds : Type 0} → (said → step) → (step → said) → (step → record_holds) → (record_holds → step) → said ↔ record_holds
+both_ways means meant to from = (λ h. to (means h), λ r. meant (from r))
 
 pub not_so : (b : Bool) → (b ≡ true → ⊥) → b ≡ false
 not_so true n = absurd (n refl)
@@ -737,82 +741,44 @@ module _ (core : CoreData) (formed : Formed core) (slots : Slots) (own : Note) (
         masks = (order_iff ns (before own) (masks_after own)).1 r.masks;
       }
 
--- ---- every rule
+  -- ---- every rule
 
-pub means_to : (core : CoreData) (formed : Formed core) (slots : Slots) (own : Note) (ns : List Note) (x : Node) (r : Rule) (k : NodeKind) → mirror.Means core slots own ns x r k → spec.Means core slots own ns x r k
-means_to core formed slots own ns x rule.Number (node.Number v) m = literal_to core formed slots own ns x 1 m
-means_to core formed slots own ns x rule.Truth (node.Truth v) m = literal_to core formed slots own ns x 2 m
-means_to core formed slots own ns x rule.Text (node.Text v) m = literal_to core formed slots own ns x 3 m
-means_to core formed slots own ns x rule.Prim (node.Prim e) m = literal_to core formed slots own ns x e m
-means_to core formed slots own ns x rule.This node.This m = this_to core formed slots own ns x m
-means_to core formed slots own ns x rule.Local (node.Local s) m = local_to core formed slots own ns x s m
-means_to core formed slots own ns x rule.Consume (node.Consume s) m = consume_to core formed slots own ns x s m
-means_to core formed slots own ns x rule.Get (node.Field name) m = get_to core formed slots own ns x name m
-means_to core formed slots own ns x rule.GetOwn (node.Field name) m = getown_to core formed slots own ns x name m
-means_to core formed slots own ns x rule.Put (node.SetField name) m = put_to core formed slots own ns x name m
-means_to core formed slots own ns x rule.PutOwn (node.SetField name) m = putown_to core formed slots own ns x name m
-means_to core formed slots own ns x rule.Define (node.Define s) m = define_to core formed slots own ns x s m
-means_to core formed slots own ns x rule.Assign (node.Assign s) m = assign_to core formed slots own ns x s m
-means_to core formed slots own ns x rule.New (node.New k) m = new_to core formed slots own ns x k m
-means_to core formed slots own ns x rule.Spawn (node.Spawn k) m = spawn_to core formed slots own ns x k m
-means_to core formed slots own ns x rule.Call (node.Call name) m = call_to core formed slots own ns x name m
-means_to core formed slots own ns x rule.CallRecover (node.Call name) m = callrecover_to core formed slots own ns x name m
-means_to core formed slots own ns x rule.Send (node.Call name) m = send_to core formed slots own ns x name m
-means_to core formed slots own ns x rule.Builtin (node.Call name) m = builtin_to core formed slots own ns x name m
-means_to core formed slots own ns x rule.Arith (node.Binary o) m = arith_to core formed slots own ns x o m
-means_to core formed slots own ns x rule.Compare (node.Binary o) m = compare_to core formed slots own ns x o m
-means_to core formed slots own ns x rule.Equal (node.Binary o) m = equal_to core formed slots own ns x o m
-means_to core formed slots own ns x rule.Join (node.Binary o) m = join_to core formed slots own ns x o m
-means_to core formed slots own ns x rule.Logic (node.Binary o) m = xor_to core formed slots own ns x o m
-means_to core formed slots own ns x rule.Logic node.Not m = not_to core formed slots own ns x m
-means_to core formed slots own ns x rule.Lazy node.And m = lazy_to core formed slots own ns x m
-means_to core formed slots own ns x rule.Lazy node.Or m = lazy_to core formed slots own ns x m
-means_to core formed slots own ns x rule.Identity (node.Same v) m = identity_to core formed slots own ns x m
-means_to core formed slots own ns x rule.Seq node.Seq m = seq_to core formed slots own ns x m
-means_to core formed slots own ns x rule.If node.If m = if_to core formed slots own ns x m
-means_to core formed slots own ns x rule.While node.While m = while_to core formed slots own ns x m
-means_to core formed slots own ns x rule.Recover (node.Recover k) m = recover_to core formed slots own ns x k m
-means_to core formed slots own ns x rule.Body node.Body m = body_to core formed slots own ns x m
-means_to core formed slots own ns x r k m = absurd m
-
-pub to_means : (core : CoreData) (formed : Formed core) (slots : Slots) (own : Note) (ns : List Note) (x : Node) (r : Rule) (k : NodeKind) → spec.Means core slots own ns x r k → mirror.Means core slots own ns x r k
-to_means core formed slots own ns x rule.Number (node.Number v) m = to_literal core formed slots own ns x 1 m
-to_means core formed slots own ns x rule.Truth (node.Truth v) m = to_literal core formed slots own ns x 2 m
-to_means core formed slots own ns x rule.Text (node.Text v) m = to_literal core formed slots own ns x 3 m
-to_means core formed slots own ns x rule.Prim (node.Prim e) m = to_literal core formed slots own ns x e m
-to_means core formed slots own ns x rule.This node.This m = to_this core formed slots own ns x m
-to_means core formed slots own ns x rule.Local (node.Local s) m = to_local core formed slots own ns x s m
-to_means core formed slots own ns x rule.Consume (node.Consume s) m = to_consume core formed slots own ns x s m
-to_means core formed slots own ns x rule.Get (node.Field name) m = to_get core formed slots own ns x name m
-to_means core formed slots own ns x rule.GetOwn (node.Field name) m = to_getown core formed slots own ns x name m
-to_means core formed slots own ns x rule.Put (node.SetField name) m = to_put core formed slots own ns x name m
-to_means core formed slots own ns x rule.PutOwn (node.SetField name) m = to_putown core formed slots own ns x name m
-to_means core formed slots own ns x rule.Define (node.Define s) m = to_define core formed slots own ns x s m
-to_means core formed slots own ns x rule.Assign (node.Assign s) m = to_assign core formed slots own ns x s m
-to_means core formed slots own ns x rule.New (node.New k) m = to_new core formed slots own ns x k m
-to_means core formed slots own ns x rule.Spawn (node.Spawn k) m = to_spawn core formed slots own ns x k m
-to_means core formed slots own ns x rule.Call (node.Call name) m = to_call core formed slots own ns x name m
-to_means core formed slots own ns x rule.CallRecover (node.Call name) m = to_callrecover core formed slots own ns x name m
-to_means core formed slots own ns x rule.Send (node.Call name) m = to_send core formed slots own ns x name m
-to_means core formed slots own ns x rule.Builtin (node.Call name) m = to_builtin core formed slots own ns x name m
-to_means core formed slots own ns x rule.Arith (node.Binary o) m = to_arith core formed slots own ns x o m
-to_means core formed slots own ns x rule.Compare (node.Binary o) m = to_compare core formed slots own ns x o m
-to_means core formed slots own ns x rule.Equal (node.Binary o) m = to_equal core formed slots own ns x o m
-to_means core formed slots own ns x rule.Join (node.Binary o) m = to_join core formed slots own ns x o m
-to_means core formed slots own ns x rule.Logic (node.Binary o) m = to_xor core formed slots own ns x o m
-to_means core formed slots own ns x rule.Logic node.Not m = to_not core formed slots own ns x m
-to_means core formed slots own ns x rule.Lazy node.And m = to_lazy core formed slots own ns x m
-to_means core formed slots own ns x rule.Lazy node.Or m = to_lazy core formed slots own ns x m
-to_means core formed slots own ns x rule.Identity (node.Same v) m = to_identity core formed slots own ns x m
-to_means core formed slots own ns x rule.Seq node.Seq m = to_seq core formed slots own ns x m
-to_means core formed slots own ns x rule.If node.If m = to_if core formed slots own ns x m
-to_means core formed slots own ns x rule.While node.While m = to_while core formed slots own ns x m
-to_means core formed slots own ns x rule.Recover (node.Recover k) m = to_recover core formed slots own ns x k m
-to_means core formed slots own ns x rule.Body node.Body m = to_body core formed slots own ns x m
-to_means core formed slots own ns x r k m = absurd m
+  -- A rule concludes what the note states iff its record holds for the note.
+  said_is_meant : (r : Rule) (k : NodeKind) → (rule_says core slots ns x (before own) r k ≡ Some (said_by own)) ↔ spec.Means core slots own ns x r k
+  said_is_meant rule.Number (node.Number v) = both_ways (literal_means own 1) (means_literal own 1) (literal_to 1) (to_literal 1)
+  said_is_meant rule.Truth (node.Truth v) = both_ways (literal_means own 2) (means_literal own 2) (literal_to 2) (to_literal 2)
+  said_is_meant rule.Text (node.Text v) = both_ways (literal_means own 3) (means_literal own 3) (literal_to 3) (to_literal 3)
+  said_is_meant rule.Prim (node.Prim e) = both_ways (literal_means own e) (means_literal own e) (literal_to e) (to_literal e)
+  said_is_meant rule.This node.This = both_ways (this_means core slots own ns x) (means_this core slots own ns x) (this_to) (to_this)
+  said_is_meant rule.Local (node.Local s) = both_ways (local_means core slots own ns x s) (means_local core slots own ns x s) (local_to s) (to_local s)
+  said_is_meant rule.Consume (node.Consume s) = both_ways (consume_means core slots own ns x s) (means_consume core slots own ns x s) (consume_to s) (to_consume s)
+  said_is_meant rule.Get (node.Field name) = both_ways (get_means core own ns x name) (means_get core own ns x name) (get_to name) (to_get name)
+  said_is_meant rule.GetOwn (node.Field name) = both_ways (getown_means core own ns x name) (means_getown core own ns x name) (getown_to name) (to_getown name)
+  said_is_meant rule.Put (node.SetField name) = both_ways (put_means core own ns x name) (means_put core own ns x name) (put_to name) (to_put name)
+  said_is_meant rule.PutOwn (node.SetField name) = both_ways (putown_means core own ns x name) (means_putown core own ns x name) (putown_to name) (to_putown name)
+  said_is_meant rule.Define (node.Define s) = both_ways (define_means core slots own ns x s) (means_define core slots own ns x s) (define_to s) (to_define s)
+  said_is_meant rule.Assign (node.Assign s) = both_ways (assign_means core slots own ns x s) (means_assign core slots own ns x s) (assign_to s) (to_assign s)
+  said_is_meant rule.New (node.New k) = both_ways (new_means core own ns k) (means_new core own ns k) (new_to k) (to_new k)
+  said_is_meant rule.Spawn (node.Spawn k) = both_ways (spawn_means core own ns k) (means_spawn core own ns k) (spawn_to k) (to_spawn k)
+  said_is_meant rule.Call (node.Call name) = both_ways (call_means core own ns name) (means_call core own ns name) (call_to name) (to_call name)
+  said_is_meant rule.CallRecover (node.Call name) = both_ways (callrecover_means core own ns name) (means_callrecover core own ns name) (callrecover_to name) (to_callrecover name)
+  said_is_meant rule.Send (node.Call name) = both_ways (send_means core own ns name) (means_send core own ns name) (send_to name) (to_send name)
+  said_is_meant rule.Builtin (node.Call name) = both_ways (builtin_means core own ns name) (means_builtin core own ns name) (builtin_to name) (to_builtin name)
+  said_is_meant rule.Arith (node.Binary o) = both_ways (arith_means own ns o) (means_arith own ns o) (arith_to o) (to_arith o)
+  said_is_meant rule.Compare (node.Binary o) = both_ways (compare_means own ns o) (means_compare own ns o) (compare_to o) (to_compare o)
+  said_is_meant rule.Equal (node.Binary o) = both_ways (equal_means own ns o) (means_equal own ns o) (equal_to o) (to_equal o)
+  said_is_meant rule.Join (node.Binary o) = both_ways (join_means own ns o) (means_join own ns o) (join_to o) (to_join o)
+  said_is_meant rule.Logic (node.Binary o) = both_ways (xor_means own ns o) (means_xor own ns o) (xor_to o) (to_xor o)
+  said_is_meant rule.Logic node.Not = both_ways (not_means own ns) (means_not own ns) (not_to) (to_not)
+  said_is_meant rule.Lazy node.And = both_ways (lazy_means own ns) (means_lazy own ns) (lazy_to) (to_lazy)
+  said_is_meant rule.Lazy node.Or = both_ways (lazy_means own ns) (means_lazy own ns) (lazy_to) (to_lazy)
+  said_is_meant rule.Identity (node.Same v) = both_ways (identity_means own ns) (means_identity own ns) (identity_to) (to_identity)
+  said_is_meant rule.Seq node.Seq = both_ways (seq_means core own ns x) (means_seq core own ns x) (seq_to) (to_seq)
+  said_is_meant rule.If node.If = both_ways (if_means core own ns) (means_if core own ns) (if_to) (to_if)
+  said_is_meant rule.While node.While = both_ways (while_means core own ns) (means_while core own ns) (while_to) (to_while)
+  said_is_meant rule.Recover (node.Recover k) = both_ways (recover_means core own ns k) (means_recover core own ns k) (recover_to k) (to_recover k)
+  said_is_meant rule.Body node.Body = both_ways (body_means core own ns x) (means_body core own ns x) (body_to) (to_body)
+  said_is_meant r k = (λ h. absurd (none-some (said_by own) h), λ m. absurd m)
 
 pub rules_say_what_is_meant : SaysWhatIsMeant
-rules_say_what_is_meant core formed slots own ns x r k = (
-  λ h. means_to core formed slots own ns x r k ((rules_are_records core slots own ns x r k).0 h),
-  λ h. (rules_are_records core slots own ns x r k).1 (to_means core formed slots own ns x r k h),
-)
+rules_say_what_is_meant core formed slots own ns x r k = said_is_meant core formed slots own ns x r k

@@ -1,19 +1,19 @@
--- If a rule applies to a node, its children are evaluated one after the other, except for the branches of an `if`,
--- which both follow the condition.
-use Rattle.std.specs.Prelude.{◌≡◌, ℕ, zero, suc, Bool, true, false, cond, List, [], ◌∷◌, length, Option, Some, None, slice_get}
+-- If a rule applies to a node, it is the only one, and the node's children are evaluated one after the other, except
+-- for the branches of an `if`, which both follow the condition.
+use Rattle.std.specs.Prelude.{◌≡◌, ℕ, zero, suc, Bool, true, false, cond, List, [], ◌∷◌, length, Option, Some, None, slice_get, if◌then◌else◌, refl}
 use Rattle.std.proofs.{Common.{ap, sym, subst, ◌∙◌}, lemmas.Option.{same_Some, none-some}, lemmas.Bool.{and_parts, eqb-true}}
-use Rattle.pc_caps.specs.Tables.{view}
+use Rattle.pc_caps.specs.{declared.capability.Cap.Cap, Tables.view}
 use Rattle.pc_caps.specs.declared.capability.Form.TheVariants as form
-use Rattle.pc_core.specs.{declared.declarations.Method.Method, declared.nodes.Node.Node, declared.nodes.NodeKind.NodeKind, CoreData.CoreData, Nodes.HasArity}
+use Rattle.pc_core.specs.{declared.declarations.Method.Method, declared.nodes.Node.Node, declared.nodes.NodeKind.NodeKind, CoreData.CoreData, Formed.Formed, Nodes.HasArity}
 use Rattle.pc_core.specs.declared.nodes.NodeKind.TheVariants as node
 use Rattle.pc_base.specs.Lists.{◌>>=◌}
 use Rattle.pc_base.proofs.{Options.{bind_some, kept, kept_otherwise, bind_is}, Bools.false_true, Cuts.without_length}
 use Rattle.pc_masks.specs.{declared.mask.Mask.Mask, Masks.same}
 use Rattle.pc_ann.specs.{declared.annotation.Note.Note, declared.annotation.Ann.Ann, declared.annotation.Rule.Rule}
 use Rattle.pc_ann.specs.declared.annotation.Rule.TheVariants as rule
-use Rattle.pc_rules.specs.{declared.said.Said.Said, Parts.{starts, through, type_of, one_child, last_child}, Values.{defines, assigns}, Fields.{own_field, field_type, old_type}, Control.recovered}
+use Rattle.pc_rules.specs.{declared.said.Said.Said, Parts.{starts, through, type_of, one_child, last_child}, Values.{defines, assigns}, Fields.{own_field, field_type, old_type}, Operators.{is_arithmetic, is_comparison, is_equality, is_add, is_xor, both_read_as, comparable}, Control.recovered}
 use Rattle.pc_valid.specs.Words.{Ty, Masks, before, masks_after}
-use Rattle.pc_rules.proofs.ByNumber.{two_children, three_children, two_types, slot_of, defined, assigned, incomplete, read_says, own_read_says, write_says, value_type, own_write_says, called, value_says, lazy_masks, branch_masks, loop_masks, says, own_seen}
+use Rattle.pc_rules.proofs.{OneRule.{call_rule, operator_rule, is_call, is_callrecover, is_send, is_builtin, is_arith, is_join, is_compare, is_equal, is_logic, asked}, ByNumber.{two_children, three_children, two_types, slot_of, defined, assigned, incomplete, read_says, own_read_says, write_says, value_type, own_write_says, called, value_says, lazy_masks, branch_masks, loop_masks, says, own_seen}}
 
 -- The children are evaluated one after the other.
 abbrev pub Threaded : Ann → List ℕ → Masks → Type 0
@@ -64,6 +64,33 @@ lazy_threaded ann cs m f q e =
     pair_threaded ann cs c.0 m n.0 k.0 c.1 n.1 k.1
 
 -- ---- each rule
+
+-- The rule that can apply to node x.
+abbrev pub rule_at : CoreData → Ann → Node → NodeKind → Rule
+rule_at core ann x (node.Number v) = rule.Number
+rule_at core ann x (node.Truth v) = rule.Truth
+rule_at core ann x (node.Text v) = rule.Text
+rule_at core ann x (node.Prim e) = rule.Prim
+rule_at core ann x node.This = rule.This
+rule_at core ann x (node.Local s) = rule.Local
+rule_at core ann x (node.Consume s) = rule.Consume
+rule_at core ann x (node.Field name) = if incomplete core ann x then rule.GetOwn else rule.Get
+rule_at core ann x (node.SetField name) = if incomplete core ann x then rule.PutOwn else rule.Put
+rule_at core ann x (node.Define s) = rule.Define
+rule_at core ann x (node.Assign s) = rule.Assign
+rule_at core ann x (node.New k) = rule.New
+rule_at core ann x (node.Spawn k) = rule.Spawn
+rule_at core ann x (node.Call name) = call_rule core (called core ann x name)
+rule_at core ann x (node.Binary o) = operator_rule o (two_types ann x.children)
+rule_at core ann x node.Not = rule.Logic
+rule_at core ann x node.And = rule.Lazy
+rule_at core ann x node.Or = rule.Lazy
+rule_at core ann x (node.Same v) = rule.Identity
+rule_at core ann x node.Seq = rule.Seq
+rule_at core ann x node.If = rule.If
+rule_at core ann x node.While = rule.While
+rule_at core ann x (node.Recover k) = rule.Recover
+rule_at core ann x node.Body = rule.Body
 
 -- The two paths through an `if`.
 abbrev pub then_way : List ℕ → List ℕ
@@ -116,73 +143,137 @@ module _ (core : CoreData) (ann : Ann) (x : Node) (m : Masks) (q : Said) where
       let k = kept (t a.0) (value_says e ann x m) q a.2 in
       threaded ann x.children m _ q k.1
 
-  -- The children of such a node are evaluated one after the other.
-  pub threads : (r : Rule) (k : NodeKind) → is_branch k ≡ false → HasArity k (length x.children) → says core ann x m r k ≡ Some q → Threaded ann x.children m
-  threads rule.Number (node.Number v) p h e = leaf ann x.children m h
-  threads rule.Truth (node.Truth v) p h e = leaf ann x.children m h
-  threads rule.Text (node.Text v) p h e = leaf ann x.children m h
-  threads rule.Prim (node.Prim v) p h e = leaf ann x.children m h
-  threads rule.This node.This p h e = leaf ann x.children m h
-  threads rule.Local (node.Local s) p h e = leaf ann x.children m h
-  threads rule.Consume (node.Consume s) p h e = leaf ann x.children m h
-  threads rule.Get (node.Field name) p h e = read_threads name (kept_otherwise (incomplete core ann x) (read_says core ann x name m) q e).1
-  threads rule.GetOwn (node.Field name) p h e = own_read_threads name (kept (incomplete core ann x) (own_read_says core ann x name m) q e).1
-  threads rule.Put (node.SetField name) p h e = write_threads name (kept_otherwise (incomplete core ann x) (write_says core ann x name m) q e).1
-  threads rule.PutOwn (node.SetField name) p h e = own_write_threads name (kept (incomplete core ann x) (own_write_says core ann x name m) q e).1
-  threads rule.Define (node.Define s) p h e =
+  define_threads : (s : ℕ) → says core ann x m rule.Define (node.Define s) ≡ Some q → Threaded ann x.children m
+  define_threads s e =
       let a = bind_some (one_child x.children) _ q e in
       let b = bind_some (type_of ann a.0) _ q a.2 in
       let c = bind_some (slot_of core ann x.method s) _ q b.2 in
       threaded ann x.children m _ q (kept (defines core c.0 b.0) (defined ann x s m) q c.2).1
-  threads rule.Assign (node.Assign s) p h e =
+
+  assign_threads : (s : ℕ) → says core ann x m rule.Assign (node.Assign s) ≡ Some q → Threaded ann x.children m
+  assign_threads s e =
       let a = bind_some (one_child x.children) _ q e in
       let b = bind_some (type_of ann a.0) _ q a.2 in
       let c = bind_some (slot_of core ann x.method s) _ q b.2 in
       threaded ann x.children m _ q (kept (assigns core x c.0 b.0) (assigned ann x s c.0.1 m) q c.2).1
-  threads rule.New (node.New k) p h e = let a = bind_some (slice_get core.methods k) _ q e in threaded ann x.children m _ q a.2
-  threads rule.Spawn (node.Spawn k) p h e = let a = bind_some (slice_get core.methods k) _ q e in threaded ann x.children m _ q a.2
-  threads rule.Call (node.Call name) p h e = called_threads name _ e
-  threads rule.CallRecover (node.Call name) p h e = called_threads name _ e
-  threads rule.Send (node.Call name) p h e = called_threads name _ e
-  threads rule.Builtin (node.Call name) p h e =
+
+  new_threads : (k : ℕ) → says core ann x m rule.New (node.New k) ≡ Some q → Threaded ann x.children m
+  new_threads k e = let a = bind_some (slice_get core.methods k) _ q e in threaded ann x.children m _ q a.2
+
+  spawn_threads : (k : ℕ) → says core ann x m rule.Spawn (node.Spawn k) ≡ Some q → Threaded ann x.children m
+  spawn_threads k e = let a = bind_some (slice_get core.methods k) _ q e in threaded ann x.children m _ q a.2
+
+  builtin_threads : (name : ℕ) → says core ann x m rule.Builtin (node.Call name) ≡ Some q → Threaded ann x.children m
+  builtin_threads name e =
       let a = bind_some (one_child x.children) _ q e in
       let b = bind_some (type_of ann a.0) _ q a.2 in
       let c = bind_some (slice_get core.names name) _ q b.2 in
       threaded ann x.children m _ q c.2
-  threads rule.Arith (node.Binary o) p h e = tested_threads 1 _ e
-  threads rule.Compare (node.Binary o) p h e = tested_threads 2 _ e
-  threads rule.Equal (node.Binary o) p h e = tested_threads 2 _ e
-  threads rule.Join (node.Binary o) p h e = tested_threads 3 _ e
-  threads rule.Logic (node.Binary o) p h e = tested_threads 2 _ e
-  threads rule.Logic node.Not p h e =
+
+  not_threads : says core ann x m rule.Logic node.Not ≡ Some q → Threaded ann x.children m
+  not_threads e =
       let a = bind_some (one_child x.children) _ q e in
       let b = bind_some (type_of ann a.0) _ q a.2 in
       threaded ann x.children m _ q (kept _ (value_says 2 ann x m) q b.2).1
-  threads rule.Lazy node.And p h e = let a = bind_some (two_types ann x.children) _ q e in lazy_threaded ann x.children m _ q a.2
-  threads rule.Lazy node.Or p h e = let a = bind_some (two_types ann x.children) _ q e in lazy_threaded ann x.children m _ q a.2
-  threads rule.Identity (node.Same v) p h e = let a = bind_some (two_types ann x.children) _ q e in threaded ann x.children m _ q a.2
-  threads rule.Seq node.Seq p h e =
+
+  and_threads : says core ann x m rule.Lazy node.And ≡ Some q → Threaded ann x.children m
+  and_threads e = let a = bind_some (two_types ann x.children) _ q e in lazy_threaded ann x.children m _ q a.2
+
+  or_threads : says core ann x m rule.Lazy node.Or ≡ Some q → Threaded ann x.children m
+  or_threads e = let a = bind_some (two_types ann x.children) _ q e in lazy_threaded ann x.children m _ q a.2
+
+  identity_threads : (v : Bool) → says core ann x m rule.Identity (node.Same v) ≡ Some q → Threaded ann x.children m
+  identity_threads v e = let a = bind_some (two_types ann x.children) _ q e in threaded ann x.children m _ q a.2
+
+  seq_threads : says core ann x m rule.Seq node.Seq ≡ Some q → Threaded ann x.children m
+  seq_threads e =
       let a = bind_some (last_child x.children) _ q e in
       let b = bind_some (slice_get ann.notes a.0) _ q a.2 in
       threaded ann x.children m _ q b.2
-  threads rule.While node.While p h e =
+
+  while_threads : says core ann x m rule.While node.While ≡ Some q → Threaded ann x.children m
+  while_threads e =
       let c = bind_some (two_children x.children) _ q e in
       let l = bind_some (loop_masks ann c.0 m) _ q c.2 in
       let n = bind_some (through ann (c.0.0 ∷ []) m) _ l.0 l.1 in
       let k = bind_some (through ann (c.0.1 ∷ []) n.0) _ l.0 n.2 in
       pair_threaded ann x.children c.0 m n.0 k.0 c.1 n.1 k.1
-  threads rule.Recover (node.Recover c) p h e =
+
+  recover_threads : (c : Option Cap) → says core ann x m rule.Recover (node.Recover c) ≡ Some q → Threaded ann x.children m
+  recover_threads c e =
       let a = bind_some (one_child x.children) _ q e in
       let b = bind_some (type_of ann a.0) _ q a.2 in
       let f = bind_some (recovered c b.0.1) _ q b.2 in
       threaded ann x.children m _ q f.2
-  threads rule.Body node.Body p h e =
+
+  body_threads : says core ann x m rule.Body node.Body ≡ Some q → Threaded ann x.children m
+  body_threads e =
       let a = bind_some (slice_get core.methods x.method) _ q e in
       let b = bind_some (one_child x.children) _ q a.2 in
       let c = bind_some (slice_get ann.notes b.0) _ q b.2 in
       threaded ann x.children m _ q c.2
-  threads rule.If node.If p h e = absurd (false_true (sym p))
-  threads r k p h e = absurd (none-some q e)
+
+  -- It is the one that can apply to this node, and the children are evaluated one after the other.
+  abbrev Applies : Rule → NodeKind → Type 0
+  Applies r k = (Formed core → r ≡ rule_at core ann x k) × (is_branch k ≡ false → HasArity k (length x.children) → Threaded ann x.children m)
+
+  applies : (r : Rule) (k : NodeKind) → says core ann x m r k ≡ Some q → Applies r k
+  applies rule.Number (node.Number v) e = (λ f. refl, λ p h. leaf ann x.children m h)
+  applies rule.Truth (node.Truth v) e = (λ f. refl, λ p h. leaf ann x.children m h)
+  applies rule.Text (node.Text v) e = (λ f. refl, λ p h. leaf ann x.children m h)
+  applies rule.Prim (node.Prim v) e = (λ f. refl, λ p h. leaf ann x.children m h)
+  applies rule.This node.This e = (λ f. refl, λ p h. leaf ann x.children m h)
+  applies rule.Local (node.Local s) e = (λ f. refl, λ p h. leaf ann x.children m h)
+  applies rule.Consume (node.Consume s) e = (λ f. refl, λ p h. leaf ann x.children m h)
+  applies rule.Get (node.Field name) e =
+      let a = kept_otherwise (incomplete core ann x) (read_says core ann x name m) q e in
+      (λ f. sym (ap (λ t. cond t rule.GetOwn rule.Get) a.0), λ p h. read_threads name a.1)
+  applies rule.GetOwn (node.Field name) e =
+      let a = kept (incomplete core ann x) (own_read_says core ann x name m) q e in
+      (λ f. sym (ap (λ t. cond t rule.GetOwn rule.Get) a.0), λ p h. own_read_threads name a.1)
+  applies rule.Put (node.SetField name) e =
+      let a = kept_otherwise (incomplete core ann x) (write_says core ann x name m) q e in
+      (λ f. sym (ap (λ t. cond t rule.PutOwn rule.Put) a.0), λ p h. write_threads name a.1)
+  applies rule.PutOwn (node.SetField name) e =
+      let a = kept (incomplete core ann x) (own_write_says core ann x name m) q e in
+      (λ f. sym (ap (λ t. cond t rule.PutOwn rule.Put) a.0), λ p h. own_write_threads name a.1)
+  applies rule.Define (node.Define s) e = (λ f. refl, λ p h. define_threads s e)
+  applies rule.Assign (node.Assign s) e = (λ f. refl, λ p h. assign_threads s e)
+  applies rule.New (node.New k) e = (λ f. refl, λ p h. new_threads k e)
+  applies rule.Spawn (node.Spawn k) e = (λ f. refl, λ p h. spawn_threads k e)
+  applies rule.Call (node.Call name) e = (λ f. is_call core ann x m q name e, λ p h. called_threads name _ e)
+  applies rule.CallRecover (node.Call name) e = (λ f. is_callrecover core ann x m q name e, λ p h. called_threads name _ e)
+  applies rule.Send (node.Call name) e = (λ f. is_send core ann x m q name e, λ p h. called_threads name _ e)
+  applies rule.Builtin (node.Call name) e = (λ f. is_builtin core ann x m q name f e, λ p h. builtin_threads name e)
+  applies rule.Arith (node.Binary o) e =
+      let a = asked ann x m q 1 (is_arithmetic o) (both_read_as 1) e in
+      (λ f. is_arith o (two_types ann x.children) a.0 a.1 a.2 a.3, λ p h. tested_threads 1 _ e)
+  applies rule.Compare (node.Binary o) e =
+      let a = asked ann x m q 2 (is_comparison o) (both_read_as 1) e in
+      (λ f. is_compare o (two_types ann x.children) a.2, λ p h. tested_threads 2 _ e)
+  applies rule.Equal (node.Binary o) e =
+      let a = asked ann x m q 2 (is_equality o) comparable e in
+      (λ f. is_equal o (two_types ann x.children) a.2, λ p h. tested_threads 2 _ e)
+  applies rule.Join (node.Binary o) e =
+      let a = asked ann x m q 3 (is_add o) (both_read_as 3) e in
+      (λ f. is_join o (two_types ann x.children) a.0 a.1 a.2 a.3, λ p h. tested_threads 3 _ e)
+  applies rule.Logic (node.Binary o) e =
+      let a = asked ann x m q 2 (is_xor o) (both_read_as 2) e in
+      (λ f. is_logic o (two_types ann x.children) a.2, λ p h. tested_threads 2 _ e)
+  applies rule.Logic node.Not e = (λ f. refl, λ p h. not_threads e)
+  applies rule.Lazy node.And e = (λ f. refl, λ p h. and_threads e)
+  applies rule.Lazy node.Or e = (λ f. refl, λ p h. or_threads e)
+  applies rule.Identity (node.Same v) e = (λ f. refl, λ p h. identity_threads v e)
+  applies rule.Seq node.Seq e = (λ f. refl, λ p h. seq_threads e)
+  applies rule.While node.While e = (λ f. refl, λ p h. while_threads e)
+  applies rule.Recover (node.Recover c) e = (λ f. refl, λ p h. recover_threads c e)
+  applies rule.Body node.Body e = (λ f. refl, λ p h. body_threads e)
+  applies rule.If node.If e = (λ f. refl, λ p h. absurd (false_true (sym p)))
+  applies r k e = absurd (none-some q e)
+
+  -- The children of such a node are evaluated one after the other.
+  pub threads : (r : Rule) (k : NodeKind) → is_branch k ≡ false → HasArity k (length x.children) → says core ann x m r k ≡ Some q → Threaded ann x.children m
+  threads r k p h e = (applies r k e).1 p h
 
   -- Each branch of an `if` follows the condition.
   branch_threads : says core ann x m rule.If node.If ≡ Some q → Threaded ann (then_way x.children) m × Threaded ann (else_way x.children) m
@@ -203,6 +294,9 @@ module _ (core : CoreData) (ann : Ann) (x : Node) (m : Masks) (q : Said) where
 
   pub if_threads : (r : Rule) → x.kind ≡ node.If → says core ann x m r x.kind ≡ Some q → Threaded ann (then_way x.children) m × Threaded ann (else_way x.children) m
   if_threads r i e = if_rule r (subst (λ j. says core ann x m r j ≡ Some q) i e)
+
+pub is_rule_at : (core : CoreData) (ann : Ann) (x : Node) (m : Masks) (r : Rule) (k : NodeKind) (q : Said) → Formed core → says core ann x m r k ≡ Some q → r ≡ rule_at core ann x k
+is_rule_at core ann x m r k q f e = (applies core ann x m q r k e).0 f
 
 -- ---- from child to child
 

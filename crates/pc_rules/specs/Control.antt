@@ -4,20 +4,22 @@ use Rattle.pc_caps.specs.{Computed.fits, Tables.{unalias, lift}, declared.capabi
 use Rattle.pc_rules.specs.{Parts.{says_of, reads_as, lower, constructs, all_fields, starts, through_notes, one_note, one_type, two_notes, three_notes, last_note}, Operators.meet_masks, declared.said.Said.Said}
 use Rattle.pc_valid.specs.Words.{Ty, Masks, masks_after}
 use Rattle.pc_tree.specs.Kinds.{none_entity, bool_entity}
-use Rattle.pc_core.specs.{declared.declarations.Method.Method, declared.declarations.MethodKind.MethodKind, declared.nodes.Node.Node, declared.nodes.NodeKind.NodeKind, CoreData.CoreData}
+use Rattle.pc_core.specs.{declared.declarations.Method.Method, declared.declarations.MethodKind.MethodKind, declared.nodes.Node.Node, declared.nodes.NodeKind.NodeKind, CoreData.CoreData, Kinds.defined_slot}
 use Rattle.pc_base.specs.Lists.{◌>>=◌}
 use Rattle.pc_masks.specs.{declared.mask.Mask.Mask, Masks.{empty, first, without_number, within, same}}
 use Rattle.pc_ann.specs.declared.annotation.Note.{Note}
 use Rattle.pc_caps.specs.declared.capability.Form.TheVariants as form
 use Rattle.pc_core.specs.declared.declarations.MethodKind.TheVariants as method
-use Rattle.pc_core.specs.declared.nodes.NodeKind.TheVariants as node
 
 -- ---- sequences
 
 -- The slot that an item of a sequence defines is not live after the sequence.
+abbrev pub without_slot : Option ℕ → Mask → Mask
+without_slot None l = l
+without_slot (Some s) l = without_number l s
+
 abbrev pub without_definition : NodeKind → Mask → Mask
-without_definition (node.Define s) l = without_number l s
-without_definition k l = l
+without_definition k l = without_slot (defined_slot k) l
 
 abbrev pub without_item : Option Node → Mask → Mask
 without_item None l = l

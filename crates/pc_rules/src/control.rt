@@ -21,31 +21,9 @@ use pc_tree::{BOOL_ENTITY, NONE_ENTITY};
 fn without_definition(kind: &NodeKind, live: Mask) -> Mask
     ensures { result ≡ spec.without_definition kind.now live }
 {
-    match kind {
-        NodeKind::Define(slot) => live.without(*slot),
-        NodeKind::Number(_)
-        | NodeKind::Truth(_)
-        | NodeKind::Text(_)
-        | NodeKind::Prim(_)
-        | NodeKind::This
-        | NodeKind::Local(_)
-        | NodeKind::Consume(_)
-        | NodeKind::Field(_)
-        | NodeKind::SetField(_)
-        | NodeKind::Assign(_)
-        | NodeKind::New(_)
-        | NodeKind::Spawn(_)
-        | NodeKind::Call(_)
-        | NodeKind::Binary(_)
-        | NodeKind::Not
-        | NodeKind::And
-        | NodeKind::Or
-        | NodeKind::Same(_)
-        | NodeKind::Seq
-        | NodeKind::If
-        | NodeKind::While
-        | NodeKind::Recover(_)
-        | NodeKind::Body => live,
+    match kind.defined_slot() {
+        None => live,
+        Some(slot) => live.without(slot),
     }
 }
 
