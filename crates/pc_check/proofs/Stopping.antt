@@ -1,17 +1,19 @@
 -- What shows that there is no annotation.
-use Rattle.std.specs.Prelude.{◌≡◌, ◌⊎◌, ℕ, zero, suc, ◌+◌, ◌<◌, true, false, not, List, [], ◌∷◌, length, Option, Some, None, slice_get, slice_set, refl}
+use Rattle.std.specs.Prelude.{◌≡◌, ℕ, zero, suc, ◌+◌, ◌<◌, Bool, true, false, not, List, [], ◌∷◌, length, Option, Some, None, slice_get, slice_set, if◌then◌else◌, refl}
 use Rattle.std.proofs.{Common.{inl, inr, ap, sym, subst, ◌∙◌, arith}, lemmas.List.length-append, lemmas.Option.{same_Some, none-some}, lemmas.Bool.{and_parts, not-true}}
 use Rattle.pc_base.proofs.{Gets.{get_below, get_set_same}, Bools.false_true}
-use Rattle.pc_caps.specs.{Tables.stored, declared.capability.Cap.Cap}
+use Rattle.pc_caps.specs.{Computed.fits, Tables.stored, declared.capability.Cap.Cap}
+use Rattle.pc_tree.specs.declared.kinds.Op.{Op}
+use Rattle.pc_tree.specs.declared.kinds.Op.TheVariants as op
 use Rattle.pc_core.specs.{declared.declarations.Method.Method, declared.nodes.Slot.Slot, declared.nodes.Node.Node, declared.nodes.NodeKind.NodeKind, CoreData.CoreData, Methods.UsesSlot, Nodes.NamesFit, Formed.Formed}
 use Rattle.pc_core.specs.declared.nodes.NodeKind.TheVariants as node
-use Rattle.pc_base.specs.Lists.{Each, Has, ◌>>=◌}
+use Rattle.pc_base.specs.Lists.{Each, Has}
 use Rattle.pc_ann.specs.{declared.annotation.Note.Note, declared.annotation.Ann.Ann, declared.annotation.Rule.Rule}
 use Rattle.pc_ann.specs.declared.annotation.Rule.TheVariants as rule
 use Rattle.pc_sub.specs.Declarations.{DeclOk}
-use Rattle.pc_rules.specs.{declared.said.Said.Said, Parts.{constructs, full, notes_of}, Values.defined_type, Rules.{says, IsSaid}, Checks.StartsFrom}
-use Rattle.pc_valid.specs.{Words.{Masks, before}, NoRule.{Infers, DifferAt}}
-use Rattle.pc_rules.proofs.{Derivations.{no_rule_to, unset_to}, Alike.{looked_at, LooksAlike, slot_same, says_same}, OneRule.define_rule, Bridge.by_number, Agreeing.{define_inv, slot_parts}, Homes.home_body}
+use Rattle.pc_rules.specs.{declared.said.Said.Said, Parts.{constructs, full}, Values.defined_type, Calls.is_behaviour, Operators.both_read_as, Rules.{says, IsSaid}, Checks.StartsFrom}
+use Rattle.pc_valid.specs.{Words.{Ty, Masks, before}, NoRule.{Infers, DifferAt}}
+use Rattle.pc_rules.proofs.{Derivations.{no_rule_to, unset_to}, Alike.{looked_at, LooksAlike, slot_same, says_same}, OneRule.{define_rule, method_rule, call_rule, operator_rule}, Threads.{rule_at, is_rule_at}, ByNumber.{incomplete, called, two_types}, Bridge.by_number, Agreeing.{define_inv, slot_parts}, Homes.home_body}
 use Rattle.pc_check.specs.{declared.sources.Source.Source, Sources.Sourced, Inference.{inferred_slot, with_inferred_slot, with_inferred, rules_for, note_or_else, first_note, is_body, lacks_field, leaves_unset}, SourceMasks.masks_from, Faults.{StopsAt, InferenceLeavesUnset}, Walked.Walked}
 use Rattle.pc_core.proofs.Homes.{home, home_method}
 use Rattle.pc_check.proofs.{Parents.earlier_body, Definitions.{slot_follows, looked_kind}, Walking.{walked_infer, reached, reaches_infer, noted, note_here, meets_noted, sets_noted, with_notes}}
@@ -28,55 +30,53 @@ each_none core ann x m [] e i r g = absurd (none-some r g)
 each_none core ann x m (q ∷ rs) e zero r g = subst (λ (k : Rule). says core ann x m k x.kind ≡ None) (same_Some q r g) (says_none q m (says core ann x m q x.kind) (first_note core ann x m rs) e).0
 each_none core ann x m (q ∷ rs) e (suc i) r g = each_none core ann x m rs (says_none q m (says core ann x m q x.kind) (first_note core ann x m rs) e).1 i r g
 
-nothing : {A B : Type 0} → (o : Option A) → ◌≡◌ {A = Option B} (o >>= λ a. None) None
-nothing None = refl
-nothing (Some a) = refl
+if_among : (rs : List Rule) (b : Bool) (r q : Rule) → Has rs r → Has rs q → Has rs (if b then r else q)
+if_among rs true r q h g = h
+if_among rs false r q h g = g
 
--- A rule is one of those for the kind, or does not apply to it.
-rule_among : (core : CoreData) (ann : Ann) (x : Node) (m : Masks) (r : Rule) (k : NodeKind) → (Has (rules_for k) r) ⊎ (says core ann x m r k ≡ None)
-rule_among core ann x m rule.Number (node.Number v) = inl (0, refl)
-rule_among core ann x m rule.Truth (node.Truth v) = inl (0, refl)
-rule_among core ann x m rule.Text (node.Text v) = inl (0, refl)
-rule_among core ann x m rule.Prim (node.Prim e) = inl (0, refl)
-rule_among core ann x m rule.This node.This = inl (0, refl)
-rule_among core ann x m rule.Local (node.Local s) = inl (0, refl)
-rule_among core ann x m rule.Consume (node.Consume s) = inl (0, refl)
-rule_among core ann x m rule.Get (node.Field name) = inl (0, refl)
-rule_among core ann x m rule.GetOwn (node.Field name) = inl (1, refl)
-rule_among core ann x m rule.Put (node.SetField name) = inl (0, refl)
-rule_among core ann x m rule.PutOwn (node.SetField name) = inl (1, refl)
-rule_among core ann x m rule.Define (node.Define s) = inl (0, refl)
-rule_among core ann x m rule.Assign (node.Assign s) = inl (0, refl)
-rule_among core ann x m rule.New (node.New k) = inl (0, refl)
-rule_among core ann x m rule.Spawn (node.Spawn k) = inl (0, refl)
-rule_among core ann x m rule.Call (node.Call name) = inl (0, refl)
-rule_among core ann x m rule.CallRecover (node.Call name) = inl (1, refl)
-rule_among core ann x m rule.Send (node.Call name) = inl (2, refl)
-rule_among core ann x m rule.Builtin (node.Call name) = inl (3, refl)
-rule_among core ann x m rule.Arith (node.Binary o) = inl (0, refl)
-rule_among core ann x m rule.Compare (node.Binary o) = inl (1, refl)
-rule_among core ann x m rule.Equal (node.Binary o) = inl (2, refl)
-rule_among core ann x m rule.Join (node.Binary o) = inl (3, refl)
-rule_among core ann x m rule.Logic (node.Binary o) = inl (4, refl)
-rule_among core ann x m rule.Logic node.Not = inl (0, refl)
-rule_among core ann x m rule.Lazy node.And = inl (0, refl)
-rule_among core ann x m rule.Lazy node.Or = inl (0, refl)
-rule_among core ann x m rule.Identity (node.Same v) = inl (0, refl)
-rule_among core ann x m rule.Seq node.Seq = inl (0, refl)
-rule_among core ann x m rule.If node.If = inl (0, refl)
-rule_among core ann x m rule.While node.While = inl (0, refl)
-rule_among core ann x m rule.Recover (node.Recover k) = inl (0, refl)
-rule_among core ann x m rule.Body node.Body = inl (0, refl)
-rule_among core ann x m r k = inr (nothing (notes_of ann.notes x.children))
+method_among : (name : ℕ) (to : Ty) (o : Option Method) → Has (rules_for (node.Call name)) (method_rule to o)
+method_among name to None = (3, refl)
+method_among name to (Some f) =
+    let rules = rules_for (node.Call name) in
+    if_among rules (is_behaviour f.kind) rule.Send _ (2, refl) (if_among rules (fits to.1 f.receiver) rule.Call rule.CallRecover (0, refl) (1, refl))
 
-no_rule_says : (core : CoreData) (ann : Ann) (x : Node) (m : Masks) → first_note core ann x m (rules_for x.kind) ≡ None → (r : Rule) → says core ann x m r x.kind ≡ None
-no_rule_says core ann x m e r = elim (rule_among core ann x m r x.kind) [ inl has ↦ each_none core ann x m (rules_for x.kind) e has.0 r has.1 | inr none ↦ none ]
+call_among : (core : CoreData) (name : ℕ) (o : Option (Ty × ℕ)) → Has (rules_for (node.Call name)) (call_rule core o)
+call_among core name None = (3, refl)
+call_among core name (Some i) = method_among name i.0 (slice_get core.methods i.1)
 
--- ---- whatever the type of the slot
+operator_among : (o : Op) (vs : Option (Ty × Ty)) → Has (rules_for (node.Binary o)) (operator_rule o vs)
+operator_among op.Add None = (0, refl)
+operator_among op.Add (Some vs) = if_among (rules_for (node.Binary op.Add)) (both_read_as 3 vs) rule.Join rule.Arith (3, refl) (0, refl)
+operator_among op.Lt vs = (1, refl)
+operator_among op.Le vs = (1, refl)
+operator_among op.Gt vs = (1, refl)
+operator_among op.Ge vs = (1, refl)
+operator_among op.Eq vs = (2, refl)
+operator_among op.Ne vs = (2, refl)
+operator_among op.Xor vs = (4, refl)
+operator_among o vs = (0, refl)
+
+-- The rule that can apply to a node is one of those for its kind.
+rule_among : (core : CoreData) (ann : Ann) (x : Node) (k : NodeKind) → Has (rules_for k) (rule_at core ann x k)
+rule_among core ann x (node.Field name) = if_among (rules_for (node.Field name)) (incomplete core ann x) rule.GetOwn rule.Get (1, refl) (0, refl)
+rule_among core ann x (node.SetField name) = if_among (rules_for (node.SetField name)) (incomplete core ann x) rule.PutOwn rule.Put (1, refl) (0, refl)
+rule_among core ann x (node.Call name) = call_among core name (called core ann x name)
+rule_among core ann x (node.Binary o) = operator_among o (two_types ann x.children)
+rule_among core ann x k = (0, refl)
 
 is_none : {A : Type 0} → (o : Option A) → ((q : A) → o ≡ Some q → ⊥) → o ≡ None
 is_none None h = refl
 is_none (Some q) h = absurd (h q refl)
+
+-- If none of these rules applies, no rule does.
+no_rule_says : (core : CoreData) (ann : Ann) (x : Node) (m : Masks) → Formed core → first_note core ann x m (rules_for x.kind) ≡ None → (r : Rule) → says core ann x m r x.kind ≡ None
+no_rule_says core ann x m formed e r =
+    is_none (says core ann x m r x.kind) (λ q s.
+    let is = is_rule_at core ann x m r x.kind q formed (by_number core ann x m r x.kind q s) in
+    let has = rule_among core ann x x.kind in
+    none-some q (sym (each_none core ann x m (rules_for x.kind) e has.0 r (has.1 ∙ ap Some (sym is))) ∙ s))
+
+-- ---- whatever the type of the slot
 
 -- If a rule applies to a definition without a written type, its slot has the type that follows.
 type_follows : (core : CoreData) (a : Ann) (slots : List (ℕ × Cap)) (x : Node) (m : Masks) (r : Rule) (s : ℕ) (f : Method) (y : Slot) (q : Said) → x.kind ≡ node.Define s → slice_get core.methods x.method ≡ Some f → slice_get core.slots (f.first_slot + s) ≡ Some y → y.written ≡ None → says core (record { slots = slots; notes = a.notes }) x m r x.kind ≡ Some q → (ty : ℕ × Cap) × (inferred_slot core a x x.kind ≡ Some (f.first_slot + s, ty)) × (slice_get slots (f.first_slot + s) ≡ Some ty)
@@ -153,7 +153,7 @@ stop_at core a n x m formed ok count g w r e = (
     masks = m;
     reaches = r;
     none = λ k slots d. subst (λ ts. says core (record { slots = slots; notes = ts }) x m k x.kind ≡ None) (sym (with_notes a (inferred_slot core a x x.kind)))
-        (none_with core a n x formed g count slots m k (inferred_slot core a x x.kind) refl (no_rule_says core (with_inferred core a x) x m e k) d);
+        (none_with core a n x formed g count slots m k (inferred_slot core a x x.kind) refl (no_rule_says core (with_inferred core a x) x m formed e k) d);
   }),
   refl,
   w.notes,

@@ -3,7 +3,7 @@
 use Rattle.std.specs.Prelude.{ℕ, ◌+◌, Bool, true, false, ◌&&◌, not, List, [], ◌∷◌, map, Option, Some, None, slice_get, slice_set}
 use Rattle.pc_caps.specs.{Tables.stored, declared.capability.Cap.Cap}
 use Rattle.pc_tree.specs.Kinds.{none_entity}
-use Rattle.pc_core.specs.{declared.declarations.Method.Method, declared.nodes.Slot.Slot, declared.nodes.Node.Node, declared.nodes.NodeKind.NodeKind, CoreData.CoreData}
+use Rattle.pc_core.specs.{declared.declarations.Method.Method, declared.nodes.Slot.Slot, declared.nodes.Node.Node, declared.nodes.NodeKind.NodeKind, CoreData.CoreData, Kinds.defined_slot}
 use Rattle.pc_base.specs.Lists.{◌>>=◌}
 use Rattle.pc_masks.specs.declared.mask.Mask.{Mask}
 use Rattle.pc_ann.specs.{declared.annotation.Note.Note, declared.annotation.Ann.Ann, declared.annotation.Rule.Rule}
@@ -37,8 +37,9 @@ inferred_slot_type core ann x s = do
   Some (f.first_slot + s, (v.0, stored v.1))
 
 abbrev pub inferred_slot : CoreData → Ann → Node → NodeKind → Option (ℕ × (ℕ × Cap))
-inferred_slot core ann x (node.Define s) = inferred_slot_type core ann x s
-inferred_slot core ann x k = None
+inferred_slot core ann x k = do
+  s ← defined_slot k
+  inferred_slot_type core ann x s
 
 abbrev pub with_inferred_slot : Ann → Option (ℕ × (ℕ × Cap)) → Ann
 with_inferred_slot ann None = ann

@@ -30,32 +30,7 @@ fn starts(alloc: Global, core: &Core) -> Result<Vec<Source>, AllocError>
 fn is_else(kind: &NodeKind, index: usize) -> bool
     ensures { result ≡ is_else kind.now index }
 {
-    match kind {
-        NodeKind::If => index == 2,
-        NodeKind::Number(_)
-        | NodeKind::Truth(_)
-        | NodeKind::Text(_)
-        | NodeKind::Prim(_)
-        | NodeKind::This
-        | NodeKind::Local(_)
-        | NodeKind::Consume(_)
-        | NodeKind::Field(_)
-        | NodeKind::SetField(_)
-        | NodeKind::Define(_)
-        | NodeKind::Assign(_)
-        | NodeKind::New(_)
-        | NodeKind::Spawn(_)
-        | NodeKind::Call(_)
-        | NodeKind::Binary(_)
-        | NodeKind::Not
-        | NodeKind::And
-        | NodeKind::Or
-        | NodeKind::Same(_)
-        | NodeKind::Seq
-        | NodeKind::While
-        | NodeKind::Recover(_)
-        | NodeKind::Body => false,
-    }
+    matches!(kind, NodeKind::If) && index == 2
 }
 
 // The source of a later child: for an `else` branch the condition, and for any other child the one before it.
