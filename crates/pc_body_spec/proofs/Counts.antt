@@ -25,21 +25,7 @@ module _ (c : Context) (z : ℕ → ℕ → Bool) where
 
   operation_n : (o : Op) (s : Span) (d : ℕ) (a b : Rose) → times z (rose (operation o) s d (two a b)) ≡ times z a + times z b
   operation_n op.Add s d a b = omega arith
-  operation_n op.Sub s d a b = omega arith
-  operation_n op.Mul s d a b = omega arith
-  operation_n op.Div s d a b = omega arith
-  operation_n op.Rem s d a b = omega arith
-  operation_n op.Eq s d a b = omega arith
-  operation_n op.Ne s d a b = omega arith
-  operation_n op.Lt s d a b = omega arith
-  operation_n op.Le s d a b = omega arith
-  operation_n op.Gt s d a b = omega arith
-  operation_n op.Ge s d a b = omega arith
-  operation_n op.And s d a b = omega arith
-  operation_n op.Or s d a b = omega arith
-  operation_n op.Xor s d a b = omega arith
-  operation_n op.Is s d a b = omega arith
-  operation_n op.Isnt s d a b = omega arith
+  operation_n o s d a b = omega arith
 
   read_name_n : (n : Name) (d : ℕ) (m : Meaning) → times z (read_name c n d m) ≡ 0
   read_name_n n d (local x) = refl
@@ -122,19 +108,7 @@ module _ (c : Context) (z : ℕ → ℕ → Bool) where
   begun : (sc : Scope) (d : ℕ) (e : t.Expr) (x : Next) → start_faults (chain_start c sc e) x (faults_of c sc e) ≡ [] → Begun (chain_start c sc e) x (expr_of c sc d e)
   begun sc d (t.name n) x f = name_begun n d (resolve c sc n.text) x
   begun sc d (t.type_name n) x f = type_begun n d (type_meaning c n.text) x f
-  begun sc d (t.number n s) x f = tt
-  begun sc d (t.truth b s) x f = tt
-  begun sc d (t.text b s) x f = tt
-  begun sc d (t.this s) x f = tt
-  begun sc d (t.consume n s) x f = tt
-  begun sc d (t.not_ e s) x f = tt
-  begun sc d (t.infix_ o es s) x f = tt
-  begun sc d (t.chain h ss s) x f = tt
-  begun sc d (t.group b s) x f = tt
-  begun sc d (t.if_ as' o s) x f = tt
-  begun sc d (t.while_ cond b s) x f = tt
-  begun sc d (t.recover k b s) x f = tt
-  begun sc d (t.assign l r s) x f = tt
+  begun sc d e x f = tt
 
   abbrev use_times : Use → ℕ
   use_times read = 0
@@ -156,19 +130,7 @@ module _ (c : Context) (z : ℕ → ℕ → Bool) where
   head_n : (sc : Scope) (d : ℕ) (e : t.Expr) (x : Next) → (faults_of c sc e ≡ [] → times z (expr_of c sc d e) ≡ local_times c z (locals_of d e)) → start_faults (chain_start c sc e) x (faults_of c sc e) ≡ [] → times z (expr_of c sc d e) ≡ local_times c z (locals_of d e)
   head_n sc d (t.name n) x alone f = read_name_n n d (resolve c sc n.text)
   head_n sc d (t.type_name n) x alone f = read_type_n n d (type_meaning c n.text)
-  head_n sc d (t.number n s) x alone f = alone f
-  head_n sc d (t.truth b s) x alone f = alone f
-  head_n sc d (t.text b s) x alone f = alone f
-  head_n sc d (t.this s) x alone f = alone f
-  head_n sc d (t.consume n s) x alone f = alone f
-  head_n sc d (t.not_ e s) x alone f = alone f
-  head_n sc d (t.infix_ o es s) x alone f = alone f
-  head_n sc d (t.chain h ss s) x alone f = alone f
-  head_n sc d (t.group b s) x alone f = alone f
-  head_n sc d (t.if_ as' o s) x alone f = alone f
-  head_n sc d (t.while_ cond b s) x alone f = alone f
-  head_n sc d (t.recover k b s) x alone f = alone f
-  head_n sc d (t.assign l r s) x alone f = alone f
+  head_n sc d e x alone f = alone f
 
   mutual
     pub expr_n : (sc : Scope) (d : ℕ) (e : t.Expr) → faults_of c sc e ≡ [] → times z (expr_of c sc d e) ≡ local_times c z (locals_of d e)
@@ -216,19 +178,7 @@ module _ (c : Context) (z : ℕ → ℕ → Bool) where
         let first = head_n sc d h (next_of ss) (λ g. expr_n sc d h g) own in
         let sum = join_n (locals_of d h) (suffixes_locals d ss) in
         omega (arith, all, first, sum)
-    assign_n sc d s v left (t.number x0 x1) f a = omega (arith, a)
-    assign_n sc d s v left (t.truth x0 x1) f a = omega (arith, a)
-    assign_n sc d s v left (t.text x0 x1) f a = omega (arith, a)
-    assign_n sc d s v left (t.this x0) f a = omega (arith, a)
-    assign_n sc d s v left (t.consume x0 x1) f a = omega (arith, a)
-    assign_n sc d s v left (t.not_ x0 x1) f a = omega (arith, a)
-    assign_n sc d s v left (t.infix_ x0 x1 x2) f a = omega (arith, a)
-    assign_n sc d s v left (t.group x0 x1) f a = omega (arith, a)
-    assign_n sc d s v left (t.if_ x0 x1 x2) f a = omega (arith, a)
-    assign_n sc d s v left (t.while_ x0 x1 x2) f a = omega (arith, a)
-    assign_n sc d s v left (t.recover x0 x1 x2) f a = omega (arith, a)
-    assign_n sc d s v left (t.assign x0 x1 x2) f a = omega (arith, a)
-    assign_n sc d s v left (t.type_name x0) f a = omega (arith, a)
+    assign_n sc d s v left e f a = omega (arith, a)
 
     infix_n : (sc : Scope) (d : ℕ) (o : Op) (s : Span) (es : t.Exprs) → exprs_faults c sc es ≡ [] → times z (infix_of c sc d o s es) ≡ local_times c z (exprs_locals d es)
     infix_n sc d o s t.no_exprs f = refl

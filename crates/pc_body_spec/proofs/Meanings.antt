@@ -109,22 +109,11 @@ module _ (c : Context) (some_text : 0 < length c.texts) where
   sequence_ok s d (more r rs) h = (tt, h)
 
   operation_ok : (o : Op) (s : Span) (d : ℕ) (a b : Rose) → Fine a → Fine b → Fine (rose (operation o) s d (two a b))
-  operation_ok op.Add s d a b h g = (refl, (h, (g, tt)))
-  operation_ok op.Sub s d a b h g = (refl, (h, (g, tt)))
-  operation_ok op.Mul s d a b h g = (refl, (h, (g, tt)))
-  operation_ok op.Div s d a b h g = (refl, (h, (g, tt)))
-  operation_ok op.Rem s d a b h g = (refl, (h, (g, tt)))
-  operation_ok op.Eq s d a b h g = (refl, (h, (g, tt)))
-  operation_ok op.Ne s d a b h g = (refl, (h, (g, tt)))
-  operation_ok op.Lt s d a b h g = (refl, (h, (g, tt)))
-  operation_ok op.Le s d a b h g = (refl, (h, (g, tt)))
-  operation_ok op.Gt s d a b h g = (refl, (h, (g, tt)))
-  operation_ok op.Ge s d a b h g = (refl, (h, (g, tt)))
   operation_ok op.And s d a b h g = (tt, (h, (g, tt)))
   operation_ok op.Or s d a b h g = (tt, (h, (g, tt)))
-  operation_ok op.Xor s d a b h g = (refl, (h, (g, tt)))
   operation_ok op.Is s d a b h g = (tt, (h, (g, tt)))
   operation_ok op.Isnt s d a b h g = (tt, (h, (g, tt)))
+  operation_ok o s d a b h g = (refl, (h, (g, tt)))
 
   read_name_ok : (n : Name) (d : ℕ) (m : Meaning) → bare_name_faults m n.span ≡ [] → Fine (read_name c n d m)
   read_name_ok n d (local x) h = (tt, tt)
@@ -238,19 +227,7 @@ module _ (c : Context) (some_text : 0 < length c.texts) where
   start_known : (sc : Scope) (e : t.Expr) → StartKnown (chain_start c sc e)
   start_known sc (t.name n) = name_known n (resolve c sc n.text)
   start_known sc (t.type_name n) = type_known c n.text
-  start_known sc (t.number n s) = tt
-  start_known sc (t.truth b s) = tt
-  start_known sc (t.text b s) = tt
-  start_known sc (t.this s) = tt
-  start_known sc (t.consume n s) = tt
-  start_known sc (t.not_ e s) = tt
-  start_known sc (t.infix_ o es s) = tt
-  start_known sc (t.chain h ss s) = tt
-  start_known sc (t.group b s) = tt
-  start_known sc (t.if_ as' o s) = tt
-  start_known sc (t.while_ cond b s) = tt
-  start_known sc (t.recover k b s) = tt
-  start_known sc (t.assign l r s) = tt
+  start_known sc e = tt
 
   -- The value that is assigned to the end of a chain.
   abbrev UseFine : Use → Type 0
@@ -275,19 +252,7 @@ module _ (c : Context) (some_text : 0 < length c.texts) where
   begun_ok : (sc : Scope) (d : ℕ) (e : t.Expr) (x : Next) → (faults_of c sc e ≡ [] → Fine (expr_of c sc d e)) → start_faults (chain_start c sc e) x (faults_of c sc e) ≡ [] → Begun (chain_start c sc e) x (expr_of c sc d e)
   begun_ok sc d (t.name n) x alone f = name_begun n d (resolve c sc n.text) x f
   begun_ok sc d (t.type_name n) x alone f = type_begun n d (type_meaning c n.text) x (type_known c n.text) f
-  begun_ok sc d (t.number n s) x alone f = alone f
-  begun_ok sc d (t.truth b s) x alone f = alone f
-  begun_ok sc d (t.text b s) x alone f = alone f
-  begun_ok sc d (t.this s) x alone f = alone f
-  begun_ok sc d (t.consume n s) x alone f = alone f
-  begun_ok sc d (t.not_ e s) x alone f = alone f
-  begun_ok sc d (t.infix_ o es s) x alone f = alone f
-  begun_ok sc d (t.chain h ss s) x alone f = alone f
-  begun_ok sc d (t.group b s) x alone f = alone f
-  begun_ok sc d (t.if_ as' o s) x alone f = alone f
-  begun_ok sc d (t.while_ cond b s) x alone f = alone f
-  begun_ok sc d (t.recover k b s) x alone f = alone f
-  begun_ok sc d (t.assign l r s) x alone f = alone f
+  begun_ok sc d e x alone f = alone f
 
   mutual
     pub expr_ok : (sc : Scope) (d : ℕ) (e : t.Expr) → faults_of c sc e ≡ [] → Fine (expr_of c sc d e)
@@ -316,19 +281,7 @@ module _ (c : Context) (some_text : 0 < length c.texts) where
         let own = left_none (start_faults (chain_start c sc e) (next_of ss) (faults_of c sc e)) (suffixes_faults c sc (chain_start c sc e) ss) f in
         let rest = right_none (start_faults (chain_start c sc e) (next_of ss) (faults_of c sc e)) (suffixes_faults c sc (chain_start c sc e) ss) f in
         chain_ok sc d whole (write s v) (chain_start c sc e) (expr_of c sc d e) ss h (start_known sc e) (begun_ok sc d e (next_of ss) (λ g. expr_ok sc d e g) own) rest
-    assign_ok sc d s v left (t.number x0 x1) f h g = value_then_ok s d v left h g
-    assign_ok sc d s v left (t.truth x0 x1) f h g = value_then_ok s d v left h g
-    assign_ok sc d s v left (t.text x0 x1) f h g = value_then_ok s d v left h g
-    assign_ok sc d s v left (t.this x0) f h g = value_then_ok s d v left h g
-    assign_ok sc d s v left (t.consume x0 x1) f h g = value_then_ok s d v left h g
-    assign_ok sc d s v left (t.not_ x0 x1) f h g = value_then_ok s d v left h g
-    assign_ok sc d s v left (t.infix_ x0 x1 x2) f h g = value_then_ok s d v left h g
-    assign_ok sc d s v left (t.group x0 x1) f h g = value_then_ok s d v left h g
-    assign_ok sc d s v left (t.if_ x0 x1 x2) f h g = value_then_ok s d v left h g
-    assign_ok sc d s v left (t.while_ x0 x1 x2) f h g = value_then_ok s d v left h g
-    assign_ok sc d s v left (t.recover x0 x1 x2) f h g = value_then_ok s d v left h g
-    assign_ok sc d s v left (t.assign x0 x1 x2) f h g = value_then_ok s d v left h g
-    assign_ok sc d s v left (t.type_name x0) f h g = value_then_ok s d v left h g
+    assign_ok sc d s v left e f h g = value_then_ok s d v left h g
 
     infix_ok : (sc : Scope) (d : ℕ) (o : Op) (s : Span) (es : t.Exprs) → exprs_faults c sc es ≡ [] → Fine (infix_of c sc d o s es)
     infix_ok sc d o s t.no_exprs f = (inl refl, tt)

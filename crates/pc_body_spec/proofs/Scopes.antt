@@ -53,21 +53,7 @@ sequence_ok vis s d (more r rs) h = h
 
 operation_ok : (vis : List ℕ) (o : Op) (s : Span) (d : ℕ) (a b : Rose) → Scoped vis a → Scoped vis b → Scoped vis (rose (operation o) s d (two a b))
 operation_ok vis op.Add s d a b h g = (h, (g, tt))
-operation_ok vis op.Sub s d a b h g = (h, (g, tt))
-operation_ok vis op.Mul s d a b h g = (h, (g, tt))
-operation_ok vis op.Div s d a b h g = (h, (g, tt))
-operation_ok vis op.Rem s d a b h g = (h, (g, tt))
-operation_ok vis op.Eq s d a b h g = (h, (g, tt))
-operation_ok vis op.Ne s d a b h g = (h, (g, tt))
-operation_ok vis op.Lt s d a b h g = (h, (g, tt))
-operation_ok vis op.Le s d a b h g = (h, (g, tt))
-operation_ok vis op.Gt s d a b h g = (h, (g, tt))
-operation_ok vis op.Ge s d a b h g = (h, (g, tt))
-operation_ok vis op.And s d a b h g = (h, (g, tt))
-operation_ok vis op.Or s d a b h g = (h, (g, tt))
-operation_ok vis op.Xor s d a b h g = (h, (g, tt))
-operation_ok vis op.Is s d a b h g = (h, (g, tt))
-operation_ok vis op.Isnt s d a b h g = (h, (g, tt))
+operation_ok vis o s d a b h g = (h, (g, tt))
 
 read_name_ok : (vis : List ℕ) (c : Context) (n : Name) (d : ℕ) (m : Meaning) → Meant vis m → Scoped vis (read_name c n d m)
 read_name_ok vis c n d (local x) h = (h, tt)
@@ -155,19 +141,7 @@ mutual
   assign_ok : (c : Context) (sc : Scope) (d : ℕ) (s : Span) (v left : Rose) (l : t.Expr) → Scoped (slots sc) v → Scoped (slots sc) left → Scoped (slots sc) (assign_of c sc d s v left l)
   assign_ok c sc d s v left (t.name n) h g = write_name_ok (slots sc) c s n d v (resolve c sc n.text) (meant c sc n.text) h
   assign_ok c sc d s v left (t.chain e ss whole) h g = chain_ok c sc d whole (write s v) (chain_start c sc e) (expr_of c sc d e) ss h (expr_ok c sc d e)
-  assign_ok c sc d s v left (t.number n sp) h g = value_then_ok (slots sc) s d v left h g
-  assign_ok c sc d s v left (t.truth n sp) h g = value_then_ok (slots sc) s d v left h g
-  assign_ok c sc d s v left (t.text n sp) h g = value_then_ok (slots sc) s d v left h g
-  assign_ok c sc d s v left (t.type_name n) h g = value_then_ok (slots sc) s d v left h g
-  assign_ok c sc d s v left (t.this sp) h g = value_then_ok (slots sc) s d v left h g
-  assign_ok c sc d s v left (t.consume n sp) h g = value_then_ok (slots sc) s d v left h g
-  assign_ok c sc d s v left (t.not_ e sp) h g = value_then_ok (slots sc) s d v left h g
-  assign_ok c sc d s v left (t.infix_ o es sp) h g = value_then_ok (slots sc) s d v left h g
-  assign_ok c sc d s v left (t.group b sp) h g = value_then_ok (slots sc) s d v left h g
-  assign_ok c sc d s v left (t.if_ as' o sp) h g = value_then_ok (slots sc) s d v left h g
-  assign_ok c sc d s v left (t.while_ cond b sp) h g = value_then_ok (slots sc) s d v left h g
-  assign_ok c sc d s v left (t.recover cap b sp) h g = value_then_ok (slots sc) s d v left h g
-  assign_ok c sc d s v left (t.assign l r sp) h g = value_then_ok (slots sc) s d v left h g
+  assign_ok c sc d s v left e h g = value_then_ok (slots sc) s d v left h g
 
   infix_ok : (c : Context) (sc : Scope) (d : ℕ) (o : Op) (s : Span) (es : t.Exprs) → Scoped (slots sc) (infix_of c sc d o s es)
   infix_ok c sc d o s t.no_exprs = tt
