@@ -87,30 +87,11 @@ module _ (core : CoreData) (ns : List Note) (x : Node) (m : Masks) where
       (more_rules skips rule.Join (rule.Logic ∷ []) (λ c. skip_each (two_types ns) _ (λ vs e. skip_and (is_add o) _ _ c)) (one_rule skips rule.Logic (λ c. skip_each (two_types ns) _ (λ vs e. skip_and (is_xor o) _ _ c))))))
 
   skipped : (slots : Slots) (k : NodeKind) → Each (λ i r. Skips slots k r) (rules_for k)
-  skipped slots (node.Number v) = always slots (node.Number v) rule.Number refl
-  skipped slots (node.Truth v) = always slots (node.Truth v) rule.Truth refl
-  skipped slots (node.Text v) = always slots (node.Text v) rule.Text refl
-  skipped slots (node.Prim e) = always slots (node.Prim e) rule.Prim refl
-  skipped slots node.This = always slots node.This rule.This refl
-  skipped slots (node.Local s) = always slots (node.Local s) rule.Local refl
-  skipped slots (node.Consume s) = always slots (node.Consume s) rule.Consume refl
   skipped slots (node.Field name) = more_rules (Skips slots (node.Field name)) rule.Get (rule.GetOwn ∷ []) (λ c. skip_if (incomplete core ns x) _ c) (one_rule (Skips slots (node.Field name)) rule.GetOwn (λ c. skip_else (incomplete core ns x) _ c))
   skipped slots (node.SetField name) = more_rules (Skips slots (node.SetField name)) rule.Put (rule.PutOwn ∷ []) (λ c. skip_if (incomplete core ns x) _ c) (one_rule (Skips slots (node.SetField name)) rule.PutOwn (λ c. skip_else (incomplete core ns x) _ c))
-  skipped slots (node.Define s) = always slots (node.Define s) rule.Define refl
-  skipped slots (node.Assign s) = always slots (node.Assign s) rule.Assign refl
-  skipped slots (node.New e) = always slots (node.New e) rule.New refl
-  skipped slots (node.Spawn e) = always slots (node.Spawn e) rule.Spawn refl
   skipped slots (node.Call name) = call_skips slots name
   skipped slots (node.Binary o) = binary_skips slots o
-  skipped slots node.Not = always slots node.Not rule.Logic refl
-  skipped slots node.And = always slots node.And rule.Lazy refl
-  skipped slots node.Or = always slots node.Or rule.Lazy refl
-  skipped slots (node.Same v) = always slots (node.Same v) rule.Identity refl
-  skipped slots node.Seq = always slots node.Seq rule.Seq refl
-  skipped slots node.If = always slots node.If rule.If refl
-  skipped slots node.While = always slots node.While rule.While refl
-  skipped slots (node.Recover e) = always slots (node.Recover e) rule.Recover refl
-  skipped slots node.Body = always slots node.Body rule.Body refl
+  skipped slots k = always slots k _ refl
 
 -- ---- in both directions
 

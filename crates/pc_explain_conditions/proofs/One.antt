@@ -77,18 +77,7 @@ rule_slotless core slots ns x rule.CallRecover (node.Call name) e = found_slotle
 rule_slotless core slots ns x rule.Send (node.Call name) e = found_slotless (asked.callee core ns name) (asked.send_conditions (asked.receiver_index ns)) (λ f. arguments_slotless 0 f.params)
 rule_slotless core slots ns x rule.Equal (node.Binary o) e = found_slotless (type_at ns 0) asked.same_read (λ v. refl)
 rule_slotless core slots ns x rule.Body node.Body e = found_slotless (slice_get core.methods x.method) asked.body_conditions (λ f. body_slotless (is_function f.kind) f)
-rule_slotless core slots ns x rule.Builtin (node.Call name) e = refl
-rule_slotless core slots ns x rule.Arith (node.Binary o) e = refl
-rule_slotless core slots ns x rule.Compare (node.Binary o) e = refl
-rule_slotless core slots ns x rule.Join (node.Binary o) e = refl
-rule_slotless core slots ns x rule.Logic (node.Binary o) e = refl
-rule_slotless core slots ns x rule.Logic node.Not e = refl
-rule_slotless core slots ns x rule.Lazy node.And e = refl
-rule_slotless core slots ns x rule.Lazy node.Or e = refl
-rule_slotless core slots ns x rule.Identity (node.Same v) e = refl
-rule_slotless core slots ns x rule.If node.If e = refl
-rule_slotless core slots ns x rule.While node.While e = refl
-rule_slotless core slots ns x rule.Recover (node.Recover c) e = refl
+rule_slotless core slots ns x r (node.Number v) e = refl
 rule_slotless core slots ns x r k e = refl
 
 -- ---- what is the same with other slots
@@ -111,31 +100,7 @@ module _ (core : CoreData) (a b : Slots) (ns : List Note) (x : Node) (m : Masks)
   conditions_alike : (r : Rule) (k : NodeKind) → looked_at k ≡ None → asked.conditions core a ns x r k ≡ asked.conditions core b ns x r k
   conditions_alike rule.Define (node.Define s) e = absurd (none-some s (sym e))
   conditions_alike rule.Assign (node.Assign s) e = absurd (none-some s (sym e))
-  conditions_alike rule.Get (node.Field name) e = refl
-  conditions_alike rule.GetOwn (node.Field name) e = refl
-  conditions_alike rule.Put (node.SetField name) e = refl
-  conditions_alike rule.PutOwn (node.SetField name) e = refl
-  conditions_alike rule.New (node.New c) e = refl
-  conditions_alike rule.Spawn (node.Spawn c) e = refl
-  conditions_alike rule.Call (node.Call name) e = refl
-  conditions_alike rule.CallRecover (node.Call name) e = refl
-  conditions_alike rule.Send (node.Call name) e = refl
-  conditions_alike rule.Equal (node.Binary o) e = refl
-  conditions_alike rule.Body node.Body e = refl
-  conditions_alike rule.Local (node.Local s) e = refl
-  conditions_alike rule.Consume (node.Consume s) e = refl
-  conditions_alike rule.Builtin (node.Call name) e = refl
-  conditions_alike rule.Arith (node.Binary o) e = refl
-  conditions_alike rule.Compare (node.Binary o) e = refl
-  conditions_alike rule.Join (node.Binary o) e = refl
-  conditions_alike rule.Logic (node.Binary o) e = refl
-  conditions_alike rule.Logic node.Not e = refl
-  conditions_alike rule.Lazy node.And e = refl
-  conditions_alike rule.Lazy node.Or e = refl
-  conditions_alike rule.Identity (node.Same v) e = refl
-  conditions_alike rule.If node.If e = refl
-  conditions_alike rule.While node.While e = refl
-  conditions_alike rule.Recover (node.Recover c) e = refl
+  conditions_alike r (node.Number v) e = refl
   conditions_alike r k e = refl
 
   pub other_alike : (r : Rule) (k : NodeKind) → looked_at k ≡ None → first_false (holds_of core a ns x m) (asked.conditions core a ns x r k) ≡ first_false (holds_of core b ns x m) (asked.conditions core b ns x r k)

@@ -21,11 +21,6 @@ abbrev ChosenOne : CoreData → List Note → Node → NodeKind → Type 0
 ChosenOne core ns x k = (r : Rule) × Has (rules_for k) r × (is_chosen core ns x r k ≡ true)
 
 binary_chosen : (core : CoreData) (ns : List Note) (x : Node) (o : Op) → is_binary o ≡ true → ChosenOne core ns x (node.Binary o)
-binary_chosen core ns x op.Add e = (rule.Arith, (0, refl), refl)
-binary_chosen core ns x op.Sub e = (rule.Arith, (0, refl), refl)
-binary_chosen core ns x op.Mul e = (rule.Arith, (0, refl), refl)
-binary_chosen core ns x op.Div e = (rule.Arith, (0, refl), refl)
-binary_chosen core ns x op.Rem e = (rule.Arith, (0, refl), refl)
 binary_chosen core ns x op.Lt e = (rule.Compare, (1, refl), refl)
 binary_chosen core ns x op.Le e = (rule.Compare, (1, refl), refl)
 binary_chosen core ns x op.Gt e = (rule.Compare, (1, refl), refl)
@@ -37,6 +32,7 @@ binary_chosen core ns x op.And e = absurd (false_true e)
 binary_chosen core ns x op.Or e = absurd (false_true e)
 binary_chosen core ns x op.Is e = absurd (false_true e)
 binary_chosen core ns x op.Isnt e = absurd (false_true e)
+binary_chosen core ns x o e = (rule.Arith, (0, refl), refl)
 
 field_chosen : (core : CoreData) (ns : List Note) (x : Node) (name : ℕ) (b : Bool) → incomplete core ns x ≡ b → ChosenOne core ns x (node.Field name)
 field_chosen core ns x name true e = (rule.GetOwn, (1, refl), e)
@@ -51,30 +47,11 @@ call_chosen core ns x name true e = (rule.Send, (2, refl), e)
 call_chosen core ns x name false e = (rule.Call, (0, refl), ap not e)
 
 one_chosen : (core : CoreData) (ns : List Note) (x : Node) (k : NodeKind) → NamesFit core x.method k → ChosenOne core ns x k
-one_chosen core ns x (node.Number v) h = (rule.Number, (0, refl), refl)
-one_chosen core ns x (node.Truth v) h = (rule.Truth, (0, refl), refl)
-one_chosen core ns x (node.Text v) h = (rule.Text, (0, refl), refl)
-one_chosen core ns x (node.Prim e) h = (rule.Prim, (0, refl), refl)
-one_chosen core ns x node.This h = (rule.This, (0, refl), refl)
-one_chosen core ns x (node.Local s) h = (rule.Local, (0, refl), refl)
-one_chosen core ns x (node.Consume s) h = (rule.Consume, (0, refl), refl)
 one_chosen core ns x (node.Field name) h = field_chosen core ns x name (incomplete core ns x) refl
 one_chosen core ns x (node.SetField name) h = set_chosen core ns x name (incomplete core ns x) refl
-one_chosen core ns x (node.Define s) h = (rule.Define, (0, refl), refl)
-one_chosen core ns x (node.Assign s) h = (rule.Assign, (0, refl), refl)
-one_chosen core ns x (node.New e) h = (rule.New, (0, refl), refl)
-one_chosen core ns x (node.Spawn e) h = (rule.Spawn, (0, refl), refl)
 one_chosen core ns x (node.Call name) h = call_chosen core ns x name (calls_behaviour (callee core ns name)) refl
 one_chosen core ns x (node.Binary o) h = binary_chosen core ns x o h
-one_chosen core ns x node.Not h = (rule.Logic, (0, refl), refl)
-one_chosen core ns x node.And h = (rule.Lazy, (0, refl), refl)
-one_chosen core ns x node.Or h = (rule.Lazy, (0, refl), refl)
-one_chosen core ns x (node.Same v) h = (rule.Identity, (0, refl), refl)
-one_chosen core ns x node.Seq h = (rule.Seq, (0, refl), refl)
-one_chosen core ns x node.If h = (rule.If, (0, refl), refl)
-one_chosen core ns x node.While h = (rule.While, (0, refl), refl)
-one_chosen core ns x (node.Recover e) h = (rule.Recover, (0, refl), refl)
-one_chosen core ns x node.Body h = (rule.Body, (0, refl), refl)
+one_chosen core ns x k h = (_, (0, refl), refl)
 
 -- ---- and so there is a reason
 

@@ -130,11 +130,7 @@ module _ (core : CoreData) (ann : Ann) (n : ℕ) (x : Node) (m : Masks) (ns : Li
 
   same_cap_refl : (k : Cap) → same_cap k k ≡ true
   same_cap_refl cap.Iso = refl
-  same_cap_refl cap.Trn = refl
-  same_cap_refl cap.Ref = refl
-  same_cap_refl cap.Val = refl
-  same_cap_refl cap.Box = refl
-  same_cap_refl cap.Tag = refl
+  same_cap_refl k = refl
 
   same_place_refl : (p : ℕ × Cap) → same_place p p ≡ true
   same_place_refl p = ap (λ b. b && same_cap p.1 p.1) (eq-eqb p.0 p.0 refl) ∙ same_cap_refl p.1
