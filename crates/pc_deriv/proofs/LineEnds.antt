@@ -54,54 +54,15 @@ version_plain version.Two = refl
 
 rule_plain : (r : Rule) → plain 11 (rule_name r) ≡ true
 rule_plain rule.Number = refl
-rule_plain rule.Truth = refl
-rule_plain rule.Text = refl
-rule_plain rule.Prim = refl
-rule_plain rule.This = refl
-rule_plain rule.Local = refl
-rule_plain rule.Consume = refl
-rule_plain rule.Get = refl
-rule_plain rule.GetOwn = refl
-rule_plain rule.Put = refl
-rule_plain rule.PutOwn = refl
-rule_plain rule.Define = refl
-rule_plain rule.Assign = refl
-rule_plain rule.New = refl
-rule_plain rule.Spawn = refl
-rule_plain rule.Call = refl
-rule_plain rule.CallRecover = refl
-rule_plain rule.Send = refl
-rule_plain rule.Builtin = refl
-rule_plain rule.Arith = refl
-rule_plain rule.Compare = refl
-rule_plain rule.Equal = refl
-rule_plain rule.Join = refl
-rule_plain rule.Logic = refl
-rule_plain rule.Lazy = refl
-rule_plain rule.Identity = refl
-rule_plain rule.Seq = refl
-rule_plain rule.If = refl
-rule_plain rule.While = refl
-rule_plain rule.Recover = refl
-rule_plain rule.Body = refl
+rule_plain r = refl
 
 cap_plain : (k : Cap) → plain 3 (cap_name k) ≡ true
 cap_plain cap.Iso = refl
-cap_plain cap.Trn = refl
-cap_plain cap.Ref = refl
-cap_plain cap.Val = refl
-cap_plain cap.Box = refl
-cap_plain cap.Tag = refl
+cap_plain k = refl
 
 form_plain : (f : Form) → plain 4 (form_name f) ≡ true
 form_plain form.IsoE = refl
-form_plain form.TrnE = refl
-form_plain form.Iso = refl
-form_plain form.Trn = refl
-form_plain form.Ref = refl
-form_plain form.Val = refl
-form_plain form.Box = refl
-form_plain form.Tag = refl
+form_plain f = refl
 
 decimal_plain : (n : ℕ) → n < 2 ^ 32 → Plain 10 (decimal n)
 decimal_plain n small = record {

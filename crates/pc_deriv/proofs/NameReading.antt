@@ -74,53 +74,14 @@ version_own version.Two rest = refl
 pub rule_own : (x : Rule) (rest : List ℕ) → rule_at (rule_name x ++ (32 ∷ rest)) ≡ Some (x, rest)
 unfolding rule_at after_word after_bytes
 rule_own rule.Number rest = refl
-rule_own rule.Truth rest = refl
-rule_own rule.Text rest = refl
-rule_own rule.Prim rest = refl
-rule_own rule.This rest = refl
-rule_own rule.Local rest = refl
-rule_own rule.Consume rest = refl
-rule_own rule.Get rest = refl
-rule_own rule.GetOwn rest = refl
-rule_own rule.Put rest = refl
-rule_own rule.PutOwn rest = refl
-rule_own rule.Define rest = refl
-rule_own rule.Assign rest = refl
-rule_own rule.New rest = refl
-rule_own rule.Spawn rest = refl
-rule_own rule.Call rest = refl
-rule_own rule.CallRecover rest = refl
-rule_own rule.Send rest = refl
-rule_own rule.Builtin rest = refl
-rule_own rule.Arith rest = refl
-rule_own rule.Compare rest = refl
-rule_own rule.Equal rest = refl
-rule_own rule.Join rest = refl
-rule_own rule.Logic rest = refl
-rule_own rule.Lazy rest = refl
-rule_own rule.Identity rest = refl
-rule_own rule.Seq rest = refl
-rule_own rule.If rest = refl
-rule_own rule.While rest = refl
-rule_own rule.Recover rest = refl
-rule_own rule.Body rest = refl
+rule_own r rest = refl
 
 pub cap_own : (x : Cap) (rest : List ℕ) → cap_at (cap_name x ++ (10 ∷ rest)) ≡ Some (x, rest)
 unfolding cap_at after_word after_bytes
 cap_own cap.Iso rest = refl
-cap_own cap.Trn rest = refl
-cap_own cap.Ref rest = refl
-cap_own cap.Val rest = refl
-cap_own cap.Box rest = refl
-cap_own cap.Tag rest = refl
+cap_own k rest = refl
 
 pub form_own : (x : Form) (rest : List ℕ) → form_at (form_name x ++ (32 ∷ rest)) ≡ Some (x, rest)
 unfolding form_at after_word after_bytes
 form_own form.IsoE rest = refl
-form_own form.TrnE rest = refl
-form_own form.Iso rest = refl
-form_own form.Trn rest = refl
-form_own form.Ref rest = refl
-form_own form.Val rest = refl
-form_own form.Box rest = refl
-form_own form.Tag rest = refl
+form_own f rest = refl
