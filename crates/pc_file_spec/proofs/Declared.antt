@@ -130,10 +130,7 @@ result_below file (Some ty) h = type_below file ty (h ty refl)
 
 object_below : (k : EntityKind) (n all : ℕ) (c : Cap) → n < all → (object_of k n c).0 < all
 object_below kind.Actor n all c l = l
-object_below kind.Class n all c l = l
-object_below kind.Primitive n all c l = l
-object_below kind.Trait n all c l = l
-object_below kind.Interface n all c l = l
+object_below k n all c l = l
 
 pub member_result : (file : t.File) (above : List (List ℕ)) (e : t.Entity) (n : ℕ) (m : Member) → Collects file above → Sort file e m → n < first_own + length file.entities → (result_of (known_of file) e.kind n m).0 < first_own + length file.entities
 member_result file above e n added c s l = object_below e.kind n (first_own + length file.entities) cap.Iso l

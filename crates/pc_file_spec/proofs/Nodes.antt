@@ -84,19 +84,7 @@ module _ (file : t.File) (above : List (List ℕ)) (q : Parts) (s : Setting file
   names_fit c m (node.SetField f) same texts h uses defines = omega (arith, h, texts)
   names_fit c m (node.Call f) same texts h uses defines = omega (arith, h, texts)
   names_fit c m (node.Binary o) same texts h uses defines = h
-  names_fit c m (node.Number v) same texts h uses defines = tt
-  names_fit c m (node.Truth v) same texts h uses defines = tt
-  names_fit c m (node.Text v) same texts h uses defines = tt
-  names_fit c m node.This same texts h uses defines = tt
-  names_fit c m node.Not same texts h uses defines = tt
-  names_fit c m node.And same texts h uses defines = tt
-  names_fit c m node.Or same texts h uses defines = tt
-  names_fit c m (node.Same v) same texts h uses defines = tt
-  names_fit c m node.Seq same texts h uses defines = tt
-  names_fit c m node.If same texts h uses defines = tt
-  names_fit c m node.While same texts h uses defines = tt
-  names_fit c m (node.Recover v) same texts h uses defines = tt
-  names_fit c m node.Body same texts h uses defines = tt
+  names_fit c m k same texts h uses defines = tt
 
   -- ---- a node of a member
 
