@@ -15,31 +15,9 @@ use pc_token::Token;
 fn defines(kind: &NodeKind, slot: u32) -> bool
     ensures { result ≡ spec.defines_slot slot kind.now }
 {
-    match kind {
-        NodeKind::Define(defined) => *defined == slot,
-        NodeKind::Number(_)
-        | NodeKind::Truth(_)
-        | NodeKind::Text(_)
-        | NodeKind::Prim(_)
-        | NodeKind::This
-        | NodeKind::Local(_)
-        | NodeKind::Consume(_)
-        | NodeKind::Field(_)
-        | NodeKind::SetField(_)
-        | NodeKind::Assign(_)
-        | NodeKind::New(_)
-        | NodeKind::Spawn(_)
-        | NodeKind::Call(_)
-        | NodeKind::Binary(_)
-        | NodeKind::Not
-        | NodeKind::And
-        | NodeKind::Or
-        | NodeKind::Same(_)
-        | NodeKind::Seq
-        | NodeKind::If
-        | NodeKind::While
-        | NodeKind::Recover(_)
-        | NodeKind::Body => false,
+    match kind.defined_slot() {
+        Some(defined) => defined == slot,
+        None => false,
     }
 }
 
