@@ -1,8 +1,8 @@
 -- What an explanation looks at, and what can be read from it.
-use Rattle.std.specs.{Prelude.{ℕ, zero, suc, ◌+◌, Bool, true, false, ◌&&◌, not, nat_eq, nat_lt, List, [], drop, Option, Some, None, slice_get, codes}, List.find, Str.bytes_eq}
+use Rattle.std.specs.{Prelude.{ℕ, zero, suc, ◌+◌, Bool, true, false, ◌&&◌, not, nat_eq, nat_lt, List, [], drop, Option, Some, None, slice_get, codes}, List.find, Option.option_map_or, Str.bytes_eq}
 use Rattle.pc_ann.specs.declared.annotation.Note.{Note}
 use Rattle.pc_caps.specs.{declared.capability.Cap.Cap, declared.capability.Form.Form}
-use Rattle.pc_core.specs.{CoreData.CoreData, declared.declarations.Method.Method, declared.declarations.ParamInfo.ParamInfo, declared.nodes.Node.Node, declared.nodes.NodeKind.NodeKind, declared.nodes.Slot.Slot, declared.nodes.SlotKind.SlotKind}
+use Rattle.pc_core.specs.{CoreData.CoreData, Kinds.defined_slot, declared.declarations.Method.Method, declared.declarations.ParamInfo.ParamInfo, declared.nodes.Node.Node, declared.nodes.NodeKind.NodeKind, declared.nodes.Slot.Slot, declared.nodes.SlotKind.SlotKind}
 use Rattle.pc_base.specs.Lists.{◌>>=◌, Text}
 use Rattle.pc_token.specs.declared.kinds.Token.{Token}
 use Rattle.pc_explain_window.specs.Places.{piece_of}
@@ -67,8 +67,7 @@ is_var_slot s m k = var_in (slot_in s m k)
 -- ---- the names of slots
 
 abbrev pub defines_as : ℕ → NodeKind → Bool
-defines_as k (node.Define d) = nat_eq d k
-defines_as k other = false
+defines_as index kind = option_map_or (λ slot. nat_eq slot index) (defined_slot kind) false
 
 abbrev pub defines_index : ℕ → Node → Bool
 defines_index k x = defines_as k x.kind

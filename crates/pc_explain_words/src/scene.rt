@@ -205,31 +205,9 @@ fn nodes_from(nodes: &[Node], first: u32) -> &[Node]
 fn defines(index: u32, node: &Node) -> bool
     ensures { result ≡ spec.defines_index index node.now }
 {
-    match &node.kind {
-        NodeKind::Define(slot) => *slot == index,
-        NodeKind::Number(_)
-        | NodeKind::Truth(_)
-        | NodeKind::Text(_)
-        | NodeKind::Prim(_)
-        | NodeKind::This
-        | NodeKind::Local(_)
-        | NodeKind::Consume(_)
-        | NodeKind::Field(_)
-        | NodeKind::SetField(_)
-        | NodeKind::Assign(_)
-        | NodeKind::New(_)
-        | NodeKind::Spawn(_)
-        | NodeKind::Call(_)
-        | NodeKind::Binary(_)
-        | NodeKind::Not
-        | NodeKind::And
-        | NodeKind::Or
-        | NodeKind::Same(_)
-        | NodeKind::Seq
-        | NodeKind::If
-        | NodeKind::While
-        | NodeKind::Recover(_)
-        | NodeKind::Body => false,
+    match node.kind.defined_slot() {
+        Some(slot) => slot == index,
+        None => false,
     }
 }
 
