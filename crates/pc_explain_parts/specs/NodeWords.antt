@@ -126,13 +126,7 @@ words_of_kind s x (node.Same same) = same_words same
 words_of_kind s x node.If = codes "the `if`"
 words_of_kind s x node.While = codes "the `while`"
 words_of_kind s x (node.Recover k) = recover_words k
-words_of_kind s x (node.Number n) = text_words s x
-words_of_kind s x (node.Truth b) = text_words s x
-words_of_kind s x (node.Text b) = text_words s x
-words_of_kind s x (node.Prim e) = text_words s x
-words_of_kind s x node.This = text_words s x
-words_of_kind s x node.Seq = text_words s x
-words_of_kind s x node.Body = text_words s x
+words_of_kind s x k = text_words s x
 
 -- ---- the line
 

@@ -47,14 +47,7 @@ role_of node.If n i = condition_or_none i
 role_of node.While n i = condition_or_none i
 role_of (node.Recover k) n i = role.Body
 role_of node.Body n i = role.Last
-role_of (node.Number v) n i = role.Unseen
-role_of (node.Truth v) n i = role.Unseen
-role_of (node.Text v) n i = role.Unseen
-role_of (node.Prim e) n i = role.Unseen
-role_of node.This n i = role.Unseen
-role_of (node.Local k) n i = role.Unseen
-role_of (node.Consume k) n i = role.Unseen
-role_of node.Seq n i = role.Unseen
+role_of k n i = role.Unseen
 
 unfoldable pub child_role : Node → ℕ → Role
 child_role x i = role_of x.kind (length x.children) i
