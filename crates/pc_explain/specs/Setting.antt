@@ -1,21 +1,19 @@
 -- The lines about a constructor that leaves a field unset.
-use Rattle.std.specs.Prelude.{ℕ, ◌+◌, Bool, true, false, ◌&&◌, nat_eq, List, [], ◌∷◌, ◌++◌, Option, Some, None, filter, length, map, slice_get, take, codes, if◌then◌else◌}
-use Rattle.pc_core.specs.{CoreData.CoreData, Further.own_nodes, declared.declarations.EntityDef.EntityDef, declared.declarations.FieldInfo.FieldInfo, declared.declarations.Method.Method, declared.nodes.Node.Node, declared.nodes.NodeKind.NodeKind}
+use Rattle.std.specs.{Prelude.{ℕ, ◌+◌, Bool, true, false, ◌&&◌, nat_eq, List, [], ◌∷◌, ◌++◌, Option, Some, None, filter, length, map, slice_get, take, codes, if◌then◌else◌}, Option.option_map_or}
+use Rattle.pc_core.specs.{CoreData.CoreData, Further.own_nodes, Kinds.written_field, declared.declarations.EntityDef.EntityDef, declared.declarations.FieldInfo.FieldInfo, declared.declarations.Method.Method, declared.nodes.Node.Node, declared.nodes.NodeKind.NodeKind}
 use Rattle.pc_explain_names.specs.Lists.{most, rest}
 use Rattle.pc_base.specs.Lists.{Text, line_end}
 use Rattle.pc_masks.specs.{Masks.has, declared.mask.Mask.Mask}
 use Rattle.pc_rules.specs.Fields.{is_this}
 use Rattle.pc_explain_window.specs.{Places.line_and_column, Quoting.quoted}
 use Rattle.pc_explain_words.specs.Scene.{SceneData}
-use Rattle.pc_core.specs.declared.nodes.NodeKind.TheVariants as node
 use Rattle.pc_explain_words.specs.Forms as forms
 use Rattle.pc_explain_words.specs.Methods as methods
 
 -- ---- where a field is written
 
 abbrev pub writes_name : ℕ → NodeKind → Bool
-writes_name name (node.SetField written) = nat_eq written name
-writes_name name k = false
+writes_name name k = option_map_or (λ written. nat_eq written name) (written_field k) false
 
 abbrev pub is_this_node : Option Node → Bool
 is_this_node None = false

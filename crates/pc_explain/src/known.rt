@@ -6,7 +6,7 @@ ghost use Rattle.pc_explain.specs.Known as spec;
 use pc_ann::{Ann, Note};
 use pc_base::List;
 use pc_caps::{Cap, Form, stored};
-use pc_core::{Core, Node, NodeKind, Slot};
+use pc_core::{Core, Node, Slot};
 use pc_tree::NONE_ENTITY;
 use std::alloc::{AllocError, Global};
 use std::marker::Model;
@@ -118,32 +118,8 @@ fn slot_type(core: &Core, known: &Known, node: &Node, slot: u32) -> Option<(usiz
 fn inferred_slot(core: &Core, known: &Known, node: &Node) -> Option<(usize, (u32, Cap))>
     ensures { result ≡ inference.inferred_slot core.now known.now node.now node.now.kind }
 {
-    match &node.kind {
-        NodeKind::Define(slot) => slot_type(core, known, node, *slot),
-        NodeKind::Number(_)
-        | NodeKind::Truth(_)
-        | NodeKind::Text(_)
-        | NodeKind::Prim(_)
-        | NodeKind::This
-        | NodeKind::Local(_)
-        | NodeKind::Consume(_)
-        | NodeKind::Field(_)
-        | NodeKind::SetField(_)
-        | NodeKind::Assign(_)
-        | NodeKind::New(_)
-        | NodeKind::Spawn(_)
-        | NodeKind::Call(_)
-        | NodeKind::Binary(_)
-        | NodeKind::Not
-        | NodeKind::And
-        | NodeKind::Or
-        | NodeKind::Same(_)
-        | NodeKind::Seq
-        | NodeKind::If
-        | NodeKind::While
-        | NodeKind::Recover(_)
-        | NodeKind::Body => None,
-    }
+    let slot = node.kind.defined_slot()?;
+    slot_type(core, known, node, slot)
 }
 
 // If the node defines a slot without a written type, gives the slot the type that follows.

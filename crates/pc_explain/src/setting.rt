@@ -20,31 +20,9 @@ const MOST: usize = 8;
 fn writes_name(name: u32, kind: &NodeKind) -> bool
     ensures { result ≡ spec.writes_name name kind.now }
 {
-    match kind {
-        NodeKind::SetField(written) => *written == name,
-        NodeKind::Number(_)
-        | NodeKind::Truth(_)
-        | NodeKind::Text(_)
-        | NodeKind::Prim(_)
-        | NodeKind::This
-        | NodeKind::Local(_)
-        | NodeKind::Consume(_)
-        | NodeKind::Field(_)
-        | NodeKind::Define(_)
-        | NodeKind::Assign(_)
-        | NodeKind::New(_)
-        | NodeKind::Spawn(_)
-        | NodeKind::Call(_)
-        | NodeKind::Binary(_)
-        | NodeKind::Not
-        | NodeKind::And
-        | NodeKind::Or
-        | NodeKind::Same(_)
-        | NodeKind::Seq
-        | NodeKind::If
-        | NodeKind::While
-        | NodeKind::Recover(_)
-        | NodeKind::Body => false,
+    match kind.written_field() {
+        Some(written) => written == name,
+        None => false,
     }
 }
 
