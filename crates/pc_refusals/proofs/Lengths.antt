@@ -15,54 +15,15 @@ use Rattle.pc_deriv.specs.declared.version.Version.TheVariants as version
 -- The parts of a line.
 rule_size : (r : Rule) → length (rule_name r) ≤ 11
 rule_size rule.Number = omega arith
-rule_size rule.Truth = omega arith
-rule_size rule.Text = omega arith
-rule_size rule.Prim = omega arith
-rule_size rule.This = omega arith
-rule_size rule.Local = omega arith
-rule_size rule.Consume = omega arith
-rule_size rule.Get = omega arith
-rule_size rule.GetOwn = omega arith
-rule_size rule.Put = omega arith
-rule_size rule.PutOwn = omega arith
-rule_size rule.Define = omega arith
-rule_size rule.Assign = omega arith
-rule_size rule.New = omega arith
-rule_size rule.Spawn = omega arith
-rule_size rule.Call = omega arith
-rule_size rule.CallRecover = omega arith
-rule_size rule.Send = omega arith
-rule_size rule.Builtin = omega arith
-rule_size rule.Arith = omega arith
-rule_size rule.Compare = omega arith
-rule_size rule.Equal = omega arith
-rule_size rule.Join = omega arith
-rule_size rule.Logic = omega arith
-rule_size rule.Lazy = omega arith
-rule_size rule.Identity = omega arith
-rule_size rule.Seq = omega arith
-rule_size rule.If = omega arith
-rule_size rule.While = omega arith
-rule_size rule.Recover = omega arith
-rule_size rule.Body = omega arith
+rule_size r = omega arith
 
 cap_size : (c : Cap) → length (cap_name c) ≤ 3
 cap_size cap.Iso = omega arith
-cap_size cap.Trn = omega arith
-cap_size cap.Ref = omega arith
-cap_size cap.Val = omega arith
-cap_size cap.Box = omega arith
-cap_size cap.Tag = omega arith
+cap_size k = omega arith
 
 form_size : (f : Form) → length (form_name f) ≤ 4
 form_size form.IsoE = omega arith
-form_size form.TrnE = omega arith
-form_size form.Iso = omega arith
-form_size form.Trn = omega arith
-form_size form.Ref = omega arith
-form_size form.Val = omega arith
-form_size form.Box = omega arith
-form_size form.Tag = omega arith
+form_size f = omega arith
 
 number_size : (n : ℕ) → n < 2 ^ 32 → length (decimal n) ≤ 10
 number_size n l = length-decimal-le 10 n (omega arith) (omega (arith, l)) (omega (arith, l))

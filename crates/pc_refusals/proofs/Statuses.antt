@@ -14,12 +14,8 @@ abbrev pub IsOther : ℕ → Type 0
 IsOther status = (2 ≤ status) × (status ≤ 8)
 
 fault_other : (bytes : Text) (f : LexFault) → FirstLexFault bytes f → IsOther (fault_status f)
-fault_other bytes (fault.BadByte p) h = (omega arith, omega arith)
-fault_other bytes (fault.Unclosed p) h = (omega arith, omega arith)
-fault_other bytes (fault.BadNumber p) h = (omega arith, omega arith)
-fault_other bytes (fault.BadEscape p) h = (omega arith, omega arith)
-fault_other bytes (fault.TooMany p) h = (omega arith, omega arith)
 fault_other bytes fault.Memory (ps, rest, at, pieces, few, place, bad) = elim bad [ ]
+fault_other bytes f h = (omega arith, omega arith)
 
 text_other : (bytes : Text) (f : DerivFault) → IsFault bytes f → IsOther (text_status f)
 text_other bytes (deriv.BadLine n) h = (omega arith, omega arith)
@@ -27,13 +23,8 @@ text_other bytes deriv.TooMany h = (omega arith, omega arith)
 text_other bytes deriv.Memory h = absurd h
 
 name_other : (f : NameFault) → IsNotMemory f → IsOther (name_status f)
-name_other (names.Double s) o = (omega arith, omega arith)
-name_other (names.Unknown s) o = (omega arith, omega arith)
-name_other names.NoMain o = (omega arith, omega arith)
-name_other (names.BadMain s) o = (omega arith, omega arith)
-name_other (names.Cycle s) o = (omega arith, omega arith)
-name_other (names.TooMany w s) o = (omega arith, omega arith)
 name_other names.Memory o = absurd (o refl)
+name_other f o = (omega arith, omega arith)
 
 core_other : {name bytes : Text} {v : Verdict} → CoreStage name bytes (Err v) → IsOther v.status
 core_other {bytes = bytes} (stops (faulty f h)) = fault_other bytes f h
