@@ -7,9 +7,9 @@ use Rattle.pc_caps.specs.declared.capability.Form.TheVariants as form
 use Rattle.pc_core.specs.{declared.declarations.Method.Method, declared.nodes.Node.Node}
 use Rattle.pc_explain_parts.specs.{Parts.child_role, declared.parts.Role.Role}
 use Rattle.pc_explain_parts.specs.declared.parts.Role.TheVariants as role
-use Rattle.pc_explain_sentences.specs.Stop.{StopData, child_form, child_type}
+use Rattle.pc_explain_sentences.specs.Stop.{StopData, child_form, child_node, child_type, own_method}
 use Rattle.pc_explain_hints.specs.Choice as choice
-use Rattle.pc_explain_hints.specs.{Laws.{HintEnters, HintFits, HintIsBelow, promised}, Nodes.{called_hat, child_node, is_box_this, is_new_node, is_tag_actor, is_tag_this, local_cap, old_form, own_method, recovered_slot}, declared.choice.Wanted.Wanted, declared.hint.Hint.Hint}
+use Rattle.pc_explain_hints.specs.{Laws.{HintEnters, HintFits, HintIsBelow, promised}, Nodes.{called_hat, is_box_this, is_new_node, is_tag_actor, is_tag_this, local_cap, old_form, recovered_slot}, declared.choice.Wanted.Wanted, declared.hint.Hint.Hint}
 use Rattle.pc_explain_hints.specs.declared.choice.Wanted.TheVariants as wanted
 use Rattle.pc_explain_hints.specs.declared.hint.Hint.TheVariants as hint
 

@@ -6,8 +6,8 @@ use Rattle.pc_core.specs.{CoreData.{CoreData, field_named, method_named}, declar
 use Rattle.pc_explain_parts.specs.{Parts.child_role, declared.parts.Role.Role}
 use Rattle.pc_tree.specs.{Kinds.{bool_entity, first_own, string_entity, u64_entity, is_abstract}, declared.kinds.EntityKind.EntityKind}
 use Rattle.pc_explain_words.specs.Scene.{is_param}
-use Rattle.pc_explain_sentences.specs.{Sentences.is_assign, Slots.lost_slot, Stop.{StopData, child_form, child_type, receiver_child_index}}
-use Rattle.pc_explain_hints.specs.{Nodes.{called_hat, child_node, is_assigned, is_box_this, is_in_condition, is_new_node, is_tag_actor, is_tag_this, local_cap, old_form, own_method, recovered_slot, end_slot}, declared.hint.Hint.Hint, declared.choice.Wanted.Wanted}
+use Rattle.pc_explain_sentences.specs.{Fills.is_assign, Slots.lost_slot, Stop.{StopData, child_form, child_node, child_type, own_method, receiver_child_index}}
+use Rattle.pc_explain_hints.specs.{Nodes.{called_hat, is_assigned, is_box_this, is_in_condition, is_new_node, is_tag_actor, is_tag_this, local_cap, old_form, recovered_slot, end_slot}, declared.hint.Hint.Hint, declared.choice.Wanted.Wanted}
 use Rattle.pc_caps.specs.declared.capability.Cap.TheVariants as cap
 use Rattle.pc_caps.specs.declared.capability.Form.TheVariants as form
 use Rattle.pc_explain_conditions.specs.declared.condition.Condition.TheVariants as asks

@@ -3,25 +3,15 @@ use Rattle.std.specs.{Prelude.{ℕ, Bool, true, false, ◌&&◌, nat_eq, Option,
 use Rattle.pc_caps.specs.{Tables.taken, declared.capability.Cap.Cap, declared.capability.Form.Form}
 use Rattle.pc_core.specs.{CoreData.CoreData, declared.declarations.EntityDef.EntityDef, declared.declarations.FieldInfo.FieldInfo, declared.declarations.Method.Method, declared.nodes.Node.Node, declared.nodes.NodeKind.NodeKind}
 use Rattle.pc_base.specs.Lists.{◌>>=◌}
-use Rattle.pc_explain_parts.specs.{Members.{field_of_node, node_callee}, Parts.{child_role, last_value, shown_node}}
+use Rattle.pc_explain_parts.specs.{Members.{field_of_node, node_callee}, Parts.last_value}
 use Rattle.pc_rules.specs.Calls.{is_function}
 use Rattle.pc_tree.specs.declared.kinds.EntityKind.{EntityKind}
 use Rattle.pc_explain_words.specs.Scene.{child, is_this_kind, noted_slot_type, noted_type}
-use Rattle.pc_explain_sentences.specs.Stop.{StopData, child_form}
+use Rattle.pc_explain_sentences.specs.Stop.{StopData, child_form, child_node, own_method}
 use Rattle.pc_caps.specs.declared.capability.Cap.TheVariants as cap
 use Rattle.pc_caps.specs.declared.capability.Form.TheVariants as form
 use Rattle.pc_core.specs.declared.nodes.NodeKind.TheVariants as node
 use Rattle.pc_tree.specs.declared.kinds.EntityKind.TheVariants as kind
-
--- The node that the child with this index shows.
-unfoldable pub child_node : StopData → ℕ → Option Node
-child_node st i = do
-  c ← child st.at i
-  slice_get st.scene.core.nodes (shown_node st.scene.core (child_role st.at i) c)
-
--- The method that the node belongs to.
-abbrev pub own_method : StopData → Option Method
-own_method st = slice_get st.scene.core.methods st.at.method
 
 -- ---- capabilities and forms
 

@@ -1,13 +1,13 @@
 //! What to do about each condition that does not hold.
 ghost use Rattle.std.specs.Prelude.{◌≡◌, slice_get};
 ghost use Rattle.pc_explain_hints.specs.Choice as spec;
-ghost use Rattle.pc_explain_hints.specs.Nodes.{child_node as node_is};
-ghost use Rattle.pc_explain_sentences.specs.Sentences.{is_assign as is_assign_is};
+ghost use Rattle.pc_explain_sentences.specs.Fills.{is_assign as is_assign_is};
+ghost use Rattle.pc_explain_sentences.specs.Stop.{child_node as node_is};
 
 use crate::hint::Hint;
 use crate::nodes::{
-    called_hat, child_node, end_slot, is_assigned, is_box_this, is_in_condition, is_new,
-    is_tag_actor, is_tag_this, local_cap, old_form, recovered_slot,
+    called_hat, end_slot, is_assigned, is_box_this, is_in_condition, is_new, is_tag_actor,
+    is_tag_this, local_cap, old_form, recovered_slot,
 };
 use pc_caps::{Cap, Form, below, fits, lift, sendable, unalias};
 use pc_core::{Core, Method, MethodKind, Node, NodeKind};
@@ -230,7 +230,7 @@ fn fitting_node(stop: &Stop, index: usize, cap: Cap, node: &Node, form: Form) ->
 fn fitting(stop: &Stop, index: usize, cap: Cap) -> Option<Hint>
     ensures { result ≡ spec.fitting_hint stop.now index cap }
 {
-    match child_node(stop, index) {
+    match stop.child_node(index) {
         Some(node) => Some(fitting_node(stop, index, cap, node, stop.child_form(index))),
         None => None,
     }
@@ -267,7 +267,7 @@ fn receiver_node(stop: &Stop, index: usize, cap: Cap, node: &Node, form: Form) -
 fn receiver(stop: &Stop, index: usize, cap: Cap) -> Option<Hint>
     ensures { result ≡ spec.receiver stop.now index cap }
 {
-    match child_node(stop, index) {
+    match stop.child_node(index) {
         Some(node) => receiver_node(stop, index, cap, node, stop.child_form(index)),
         None => None,
     }
@@ -323,7 +323,7 @@ fn below_node(stop: &Stop, index: usize, upper: Form, node: &Node, form: Form) -
 fn not_below(stop: &Stop, index: usize, upper: Form) -> Option<Hint>
     ensures { result ≡ spec.below stop.now index upper }
 {
-    match child_node(stop, index) {
+    match stop.child_node(index) {
         Some(node) => Some(below_node(stop, index, upper, node, stop.child_form(index))),
         None => None,
     }
@@ -460,7 +460,7 @@ fn entity_by(core: &Core, method: u32) -> Option<u32>
 fn shows_box(stop: &Stop, index: usize) -> bool
     ensures { result ≡ spec.shows_box stop.now index (node_is stop.now index) }
 {
-    match child_node(stop, index) {
+    match stop.child_node(index) {
         Some(node) => is_box_this(stop, node, stop.child_form(index)),
         None => false,
     }

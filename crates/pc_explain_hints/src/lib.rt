@@ -12,6 +12,7 @@ mod hint;
 mod hints;
 mod laws;
 mod nodes;
+mod texts;
 
 pub use choice::{Wanted, chosen};
 pub use hint::Hint;

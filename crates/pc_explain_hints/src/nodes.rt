@@ -6,20 +6,10 @@ ghost use Rattle.pc_rules.specs.Calls.{is_function as is_function_is};
 
 use pc_caps::{Cap, Form, taken};
 use pc_core::{Core, FieldInfo, Method, MethodKind, Node, NodeKind};
-use pc_explain_parts::{callee, child_role, field_at, last_value, shown_node};
+use pc_explain_parts::{callee, field_at, last_value};
 use pc_explain_sentences::Stop;
 use pc_explain_words::{child, is_this};
 use pc_tree::EntityKind;
-
-/// The node that the child with this index shows.
-#[tactic(auto, unfolding(crate::specs::Nodes::child_node))]
-pub(crate) fn child_node<'a>(stop: &Stop<'a>, index: usize) -> Option<&'a Node>
-    ensures { option_copied result ≡ spec.child_node stop.now index }
-{
-    let number = child(stop.node(), index)?;
-    let core = stop.core();
-    core.node_at(shown_node(core, child_role(stop.node(), index), number))
-}
 
 fn is_box_cap(cap: Cap) -> bool
     ensures { result ≡ spec.is_box_cap cap }
@@ -82,7 +72,7 @@ fn shows_this(node: Option<&Node>) -> bool
 pub(crate) fn is_tag_this(stop: &Stop, index: usize) -> bool
     ensures { result ≡ spec.is_tag_this stop.now index }
 {
-    shows_this(child_node(stop, index)) && is_tag_form(stop.child_form(index))
+    shows_this(stop.child_node(index)) && is_tag_form(stop.child_form(index))
 }
 
 // Whether the entity with this number is an actor.

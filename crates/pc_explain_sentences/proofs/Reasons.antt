@@ -10,11 +10,11 @@ goes_on s count i n t l e =
     let left : count - i ≡ suc (count - (i + 1)) = omega (arith, l) in
     ap (λ k. reason_from s k n) left ∙ ap (λ o. step_text o ++ reason_from s (count - (i + 1)) (step_from n o)) e
 
-pub stops : (s : SceneData) (d n : ℕ) → untyped_step s (slice_get s.core.nodes n) ≡ None → reason_from s d n ≡ own_reason s (slice_get s.core.nodes n)
+pub stops : (s : SceneData) (d n : ℕ) → untyped_step s (slice_get s.core.nodes n) ≡ None → reason_from s d n ≡ own_reason s n
 stops s zero n e = refl
 stops s (suc d) n e = ap (λ o. step_text o ++ reason_from s d (step_from n o)) e ∙ stops s d n e
 
-pub none_left : (s : SceneData) (count i n : ℕ) → count ≤ i → reason_from s (count - i) n ≡ own_reason s (slice_get s.core.nodes n)
+pub none_left : (s : SceneData) (count i n : ℕ) → count ≤ i → reason_from s (count - i) n ≡ own_reason s n
 none_left s count i n e =
     let left : count - i ≡ zero = omega (arith, e) in
     ap (λ k. reason_from s k n) left

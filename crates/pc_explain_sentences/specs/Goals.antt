@@ -1,19 +1,14 @@
--- Where a child's value goes, and the forms of children in words.
+-- Where a child's value goes, and the forms that are found.
 use Rattle.std.specs.Prelude.{ℕ, Bool, true, false, ◌&&◌, not, [], ◌∷◌, ◌++◌, Option, Some, None, slice_get, if◌then◌else◌, codes}
-use Rattle.pc_caps.specs.{Tables.sendable_form, declared.capability.Cap.Cap, declared.capability.Form.Form, Words.{cap_name, form_name}}
+use Rattle.pc_caps.specs.{Tables.sendable_form, declared.capability.Form.Form, Words.form_name}
 use Rattle.pc_core.specs.{declared.declarations.Method.Method, declared.declarations.ParamInfo.ParamInfo, declared.nodes.NodeKind.NodeKind}
 use Rattle.pc_base.specs.Lists.{Text}
-use Rattle.pc_explain_parts.specs.Parts.{child_role, role_words}
 use Rattle.pc_rules.specs.Calls.{is_behaviour}
 use Rattle.pc_explain_window.specs.{Places.piece_of, Quoting.quoted}
-use Rattle.pc_explain_words.specs.{Caps.{fitting, form_words, takes_words}, Forms.{name_text, with_article}, Scene.SceneData}
-use Rattle.pc_explain_sentences.specs.Stop.{StopData, child_form, node_method, named_member, own_slot}
+use Rattle.pc_explain_words.specs.{Forms.name_text, Scene.SceneData}
+use Rattle.pc_explain_sentences.specs.{Stop.{StopData, node_method, own_slot}, declared.texts.TheConstants.{AN_ALIAS, ANY_PARAMETER, FIELD, RESULT, UNSENDABLE}}
 use Rattle.pc_caps.specs.declared.capability.Form.TheVariants as form
 use Rattle.pc_core.specs.declared.nodes.NodeKind.TheVariants as node
-
--- The words for the child with this index.
-unfoldable pub part : StopData → ℕ → Text
-part st i = role_words (child_role st.at i)
 
 -- ---- the place that a child's value goes to
 
@@ -31,10 +26,10 @@ name_after [] = []
 name_after (b ∷ bs) = codes " " ++ quoted (b ∷ bs)
 
 abbrev pub param_words : StopData → ℕ → Text
-param_words st i = codes "the parameter" ++ name_after (param_by st.scene (node_method st) i)
+param_words st i = ANY_PARAMETER.now ++ name_after (param_by st.scene (node_method st) i)
 
 abbrev pub field_goal : Text → Text
-field_goal name = codes "the field " ++ quoted name
+field_goal name = FIELD.now ++ quoted name
 
 abbrev pub goal_by : StopData → ℕ → NodeKind → Text
 goal_by st i (node.SetField name) = field_goal (name_text st.scene.core name)
@@ -43,7 +38,7 @@ goal_by st i (node.Assign k) = quoted (own_slot st k)
 goal_by st i (node.New m) = param_words st i
 goal_by st i (node.Spawn m) = param_words st i
 goal_by st i (node.Call name) = param_words st i
-goal_by st i node.Body = codes "the result"
+goal_by st i node.Body = RESULT.now
 goal_by st i k = []
 
 -- A field, a local, a parameter or the result.
@@ -76,27 +71,8 @@ abbrev pub sends_arguments : StopData → Bool
 sends_arguments st = sends_by st st.at.kind
 
 abbrev pub form_note : (sent : Bool) → Form → Text
-form_note sent f = if is_alias f then codes ", an alias," else (if sent && not (sendable_form f) then codes ", which is not sendable," else [])
+form_note sent f = if is_alias f then AN_ALIAS.now else (if sent && not (sendable_form f) then UNSENDABLE.now else [])
 
 -- A form that was found, with a description.
 unfoldable pub found : StopData → Form → Text
 found st f = form_name f ++ form_note (sends_arguments st) f
-
--- `R has the form F`
-unfoldable pub has_form : StopData → ℕ → Text
-has_form st i = part st i ++ (codes " has the form " ++ form_name (child_form st i))
-
--- ---- a form that does not fit
-
-unfoldable pub place_takes : StopData → ℕ → Cap → Text
-place_takes st i k = codes " and " ++ (goal st i ++ (codes ", " ++ (with_article (cap_name k) ++ (codes ", " ++ takes_words k))))
-
-unfoldable pub part_unfit : StopData → ℕ → Cap → Text
-part_unfit st i k = part st i ++ (codes " has the form " ++ (found st (child_form st i) ++ place_takes st i k))
-
-unfoldable pub method_takes : Text → Cap → Text
-method_takes name k = codes ": " ++ (quoted name ++ (codes " takes its receiver as " ++ form_words (fitting k)))
-
-unfoldable pub receiver_unfit : StopData → ℕ → Cap → Text
-receiver_unfit st i k =
-    codes "the receiver has the form " ++ (form_name (child_form st i) ++ (codes ", which does not fit " ++ (cap_name k ++ method_takes (named_member st) k)))

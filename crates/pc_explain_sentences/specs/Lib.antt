@@ -1,3 +1,4 @@
+pub mod Fills
 pub mod Goals
 pub mod Sentences
 pub mod Slots

@@ -3,8 +3,8 @@ use Rattle.std.specs.Prelude.{ℕ, ◌-◌, [], length, Option, Some, None, slic
 use Rattle.pc_caps.specs.declared.capability.Form.{Form}
 use Rattle.pc_core.specs.{CoreData.CoreData, declared.declarations.EntityDef.EntityDef, declared.declarations.FieldInfo.FieldInfo, declared.declarations.Method.Method, declared.nodes.Node.Node, declared.nodes.NodeKind.NodeKind}
 use Rattle.pc_base.specs.Lists.{◌>>=◌, Text}
-use Rattle.pc_masks.specs.declared.mask.Mask.{Mask}
-use Rattle.pc_explain_parts.specs.Members.{node_callee}
+use Rattle.pc_masks.specs.{Masks.first, declared.mask.Mask.Mask}
+use Rattle.pc_explain_parts.specs.{Members.node_callee, Parts.{child_role, shown_node}}
 use Rattle.pc_explain_words.specs.{Forms.{entity_name, name_text}, Scene.{SceneData, child, slot_name, noted_type}}
 use Rattle.pc_caps.specs.declared.capability.Form.TheVariants as form
 use Rattle.pc_core.specs.declared.nodes.NodeKind.TheVariants as node
@@ -16,6 +16,10 @@ pub record StopData : Type 0 where
   pub at : Node
   pub live : Mask
   pub set : Mask
+
+-- A node of the scene, with empty masks.
+abbrev pub stop_without_masks : SceneData → ℕ → Node → StopData
+stop_without_masks s n x = record { scene = s; number = n; at = x; live = first 0; set = first 0 }
 
 -- ---- its children
 
@@ -39,6 +43,12 @@ name_of_type_entity core (Some ty) = entity_name core ty.0
 -- The name of the entity of the child.
 unfoldable pub child_entity : StopData → ℕ → Text
 child_entity st i = name_of_type_entity st.scene.core (child_type st i)
+
+-- The node that the child with this index shows.
+unfoldable pub child_node : StopData → ℕ → Option Node
+child_node st i = do
+  c ← child st.at i
+  slice_get st.scene.core.nodes (shown_node st.scene.core (child_role st.at i) c)
 
 abbrev pub receiver_child_index : StopData → ℕ
 receiver_child_index st = length st.at.children - 1
@@ -69,7 +79,10 @@ own_slot st k = slot_name st.scene st.at.method k
 unfoldable pub named_member : StopData → Text
 named_member st = name_text st.scene.core (name_by st.at.kind)
 
--- ---- its method's entity
+-- ---- its method, and its method's entity
+
+abbrev pub own_method : StopData → Option Method
+own_method st = slice_get st.scene.core.methods st.at.method
 
 abbrev pub name_of_method_entity : CoreData → Option Method → Text
 name_of_method_entity core None = []

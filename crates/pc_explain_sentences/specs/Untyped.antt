@@ -1,14 +1,12 @@
 -- Why a value has no type.
-use Rattle.std.specs.{Prelude.{ℕ, zero, suc, [], ◌++◌, length, Option, Some, None, slice_get, if◌then◌else◌, codes}, Option.is_none}
-use Rattle.pc_caps.specs.declared.capability.Form.{Form}
-use Rattle.pc_core.specs.{CoreData.CoreData, declared.declarations.Method.Method, declared.nodes.Node.Node, declared.nodes.NodeKind.NodeKind}
+use Rattle.std.specs.{Prelude.{ℕ, zero, suc, [], ◌∷◌, ◌++◌, length, Option, Some, None, slice_get, if◌then◌else◌}, Option.is_none}
+use Rattle.pc_core.specs.{declared.nodes.Node.Node, declared.nodes.NodeKind.NodeKind}
 use Rattle.pc_base.specs.Lists.{Text}
 use Rattle.pc_rules.specs.Parts.{last_child}
-use Rattle.pc_explain_window.specs.Quoting.{quoted}
-use Rattle.pc_explain_words.specs.{Forms.{name_text, type_words}, Scene.{SceneData, child, slot_name, noted_type}}
-use Rattle.pc_explain_parts.specs.Members.{node_callee}
-use Rattle.pc_explain_sentences.specs.declared.untyped.Step.{Step}
+use Rattle.pc_explain_words.specs.Scene.{SceneData, child, noted_type}
+use Rattle.pc_explain_sentences.specs.{Fills.said, Stop.{StopData, stop_without_masks}, declared.texts.TheConstants.{ASSIGNED, BRANCHES, DEFINED, FIRST_BRANCH, LAST_ITEM, LENT, SECOND_BRANCH, WRITTEN}, declared.untyped.Step.Step}
 use Rattle.pc_core.specs.declared.nodes.NodeKind.TheVariants as node
+use Rattle.pc_explain_sentences.specs.declared.fills.Fill.TheVariants as fill
 use Rattle.pc_explain_sentences.specs.declared.untyped.Step.TheVariants as step
 
 -- ---- a step to the part because of which a node has no type
@@ -33,9 +31,9 @@ untyped_step s None = None
 untyped_step s (Some x) = step_by s x x.kind
 
 abbrev pub step_words : Step → Text
-step_words (step.LastItem c) = codes "its last item has none: "
-step_words (step.FirstBranch c) = codes "its first branch has none: "
-step_words (step.SecondBranch c) = codes "its second branch has none: "
+step_words (step.LastItem c) = LAST_ITEM.now
+step_words (step.FirstBranch c) = FIRST_BRANCH.now
+step_words (step.SecondBranch c) = SECOND_BRANCH.now
 
 abbrev pub step_to : Step → ℕ
 step_to (step.LastItem c) = c
@@ -44,43 +42,21 @@ step_to (step.SecondBranch c) = c
 
 -- ---- the reason
 
-abbrev pub result_words : CoreData → Option Method → Text
-result_words core None = []
-result_words core (Some m) = codes " " ++ type_words core m.result
+abbrev pub reason_by : StopData → NodeKind → Text
+reason_by st (node.Define k) = said st DEFINED.now []
+reason_by st (node.Assign k) = said st ASSIGNED.now (fill.Slot k ∷ [])
+reason_by st (node.SetField name) = said st WRITTEN.now (fill.Name name ∷ [])
+reason_by st (node.Call name) = said st LENT.now (fill.Name name ∷ fill.Result ∷ [])
+reason_by st node.If = said st BRANCHES.now (fill.PartType 1 ∷ fill.PartType 2 ∷ [])
+reason_by st k = []
 
-unfoldable pub lent_reason : SceneData → Node → ℕ → Text
-lent_reason s x name =
-    codes "the receiver is lent to " ++ (quoted (name_text s.core name) ++ (codes ", and its result" ++ (result_words s.core (node_callee s x name) ++ codes " is not sendable")))
+-- The reason of a node that makes no step, as a node of its own.
+abbrev pub own_reason_of : SceneData → ℕ → Option Node → Text
+own_reason_of s n None = []
+own_reason_of s n (Some x) = reason_by (stop_without_masks s n x) x.kind
 
-abbrev pub assign_reason : Text → Text
-assign_reason name = quoted name ++ codes " holds nothing before this assignment, so there is no old value"
-
-abbrev pub write_reason : Text → Text
-write_reason name = codes "the field " ++ (quoted name ++ codes " is not set before this write, so there is no old value")
-
-abbrev pub type_or_none : CoreData → Option (ℕ × Form) → Text
-type_or_none core None = []
-type_or_none core (Some ty) = type_words core ty
-
-abbrev pub branch_words : SceneData → Option ℕ → Text
-branch_words s None = []
-branch_words s (Some c) = type_or_none s.core (noted_type s c)
-
-unfoldable pub branches_reason : SceneData → Node → Text
-branches_reason s x =
-    codes "its branches are " ++ (branch_words s (child x 1) ++ (codes " and " ++ (branch_words s (child x 2) ++ codes ", and neither is below the other")))
-
-abbrev pub reason_by : SceneData → Node → NodeKind → Text
-reason_by s x (node.Define k) = codes "a definition gives no value"
-reason_by s x (node.Assign k) = assign_reason (slot_name s x.method k)
-reason_by s x (node.SetField name) = write_reason (name_text s.core name)
-reason_by s x (node.Call name) = lent_reason s x name
-reason_by s x node.If = branches_reason s x
-reason_by s x k = []
-
-abbrev pub own_reason : SceneData → Option Node → Text
-own_reason s None = []
-own_reason s (Some x) = reason_by s x x.kind
+abbrev pub own_reason : SceneData → ℕ → Text
+own_reason s n = own_reason_of s n (slice_get s.core.nodes n)
 
 abbrev pub step_text : Option Step → Text
 step_text None = []
@@ -92,7 +68,7 @@ step_from n (Some t) = step_to t
 
 -- At most `depth` steps to the part because of which node n has no type, and then that part's own reason.
 abbrev pub reason_from : SceneData → (depth : ℕ) → ℕ → Text
-reason_from s zero n = own_reason s (slice_get s.core.nodes n)
+reason_from s zero n = own_reason s n
 reason_from s (suc d) n = step_text (untyped_step s (slice_get s.core.nodes n)) ++ reason_from s d (step_from n (untyped_step s (slice_get s.core.nodes n)))
 
 unfoldable pub reason : SceneData → ℕ → Text

@@ -1,30 +1,15 @@
-//! Where a child's value goes, and the forms of children in words.
+//! Where a child's value goes, and the forms that are found.
 ghost use Rattle.std.specs.Prelude.{◌≡◌, ◌++◌, OnOk};
 ghost use Rattle.std.specs.Option.{option_copied};
 ghost use Rattle.pc_explain_sentences.specs.Goals as spec;
 
 use crate::stop::Stop;
-use pc_caps::{Cap, Form, sendable_form};
+use crate::texts::{AN_ALIAS, ANY_PARAMETER, FIELD, RESULT, UNSENDABLE};
+use pc_caps::{Form, sendable_form};
 use pc_core::{Method, MethodKind, NodeKind};
-use pc_explain_parts::{child_role, push_role};
 use pc_explain_window::{piece_of, push_bytes, push_quoted};
-use pc_explain_words::{
-    Scene, cap_word, form_word, name_text, push_fitting, push_takes, push_with_article,
-};
+use pc_explain_words::{Scene, form_word, name_text};
 use std::alloc::{AllocError, Global};
-
-/// Appends the words for the child with this index.
-#[tactic(auto, unfolding(crate::specs::Goals::part))]
-pub(crate) fn push_part(
-    alloc: Global,
-    out: &mut Vec<u8>,
-    stop: &Stop,
-    index: usize,
-) -> Result<(), AllocError>
-    ensures { OnOk result (out.new.items ≡ out.old.items ++ spec.part stop.now index) }
-{
-    push_role(alloc, out, child_role(stop.node(), index))
-}
 
 // The name of a method's parameter.
 fn param_by<'a>(scene: &Scene<'a>, method: Option<&Method>, index: usize) -> &'a [u8]
@@ -62,7 +47,7 @@ fn push_parameter(
 ) -> Result<(), AllocError>
     ensures { OnOk result (out.new.items ≡ out.old.items ++ spec.param_words stop.now index) }
 {
-    push_bytes(out, b"the parameter")?;
+    push_bytes(out, ANY_PARAMETER)?;
     push_name_after(alloc, out, param_by(stop.scene(), stop.method(), index))
 }
 
@@ -70,7 +55,7 @@ fn push_parameter(
 fn push_field(alloc: Global, out: &mut Vec<u8>, name: &[u8]) -> Result<(), AllocError>
     ensures { OnOk result (out.new.items ≡ out.old.items ++ spec.field_goal name.now) }
 {
-    push_bytes(out, b"the field ")?;
+    push_bytes(out, FIELD)?;
     push_quoted(alloc, out, name)
 }
 
@@ -92,7 +77,7 @@ pub(crate) fn push_goal(
         NodeKind::New(_) | NodeKind::Spawn(_) | NodeKind::Call(_) => {
             push_parameter(alloc, out, stop, index)
         }
-        NodeKind::Body => push_bytes(out, b"the result"),
+        NodeKind::Body => push_bytes(out, RESULT),
         NodeKind::Number(_)
         | NodeKind::Truth(_)
         | NodeKind::Text(_)
@@ -171,104 +156,19 @@ fn form_note(sent: bool, form: Form) -> &'static [u8]
     ensures { result.now ≡ spec.form_note sent form }
 {
     if is_alias(form) {
-        b", an alias,"
+        AN_ALIAS
     } else if sent && !sendable_form(form) {
-        b", which is not sendable,"
+        UNSENDABLE
     } else {
         b""
     }
 }
 
-// Appends a form that was found, with a description.
+/// Appends a form that was found, with a description.
 #[tactic(auto, unfolding(crate::specs::Goals::found))]
-fn push_found(out: &mut Vec<u8>, stop: &Stop, form: Form) -> Result<(), AllocError>
+pub(crate) fn push_found(out: &mut Vec<u8>, stop: &Stop, form: Form) -> Result<(), AllocError>
     ensures { OnOk result (out.new.items ≡ out.old.items ++ spec.found stop.now form) }
 {
     push_bytes(out, form_word(form))?;
     push_bytes(out, form_note(sends(stop), form))
-}
-
-/// Appends `R has the form F`.
-#[tactic(auto, unfolding(crate::specs::Goals::has_form))]
-pub(crate) fn push_form(
-    alloc: Global,
-    out: &mut Vec<u8>,
-    stop: &Stop,
-    index: usize,
-) -> Result<(), AllocError>
-    ensures { OnOk result (out.new.items ≡ out.old.items ++ spec.has_form stop.now index) }
-{
-    push_part(alloc, out, stop, index)?;
-    push_bytes(out, b" has the form ")?;
-    push_bytes(out, form_word(stop.child_form(index)))
-}
-
-// Appends which forms the place of a child takes.
-#[tactic(auto, unfolding(crate::specs::Goals::place_takes))]
-fn push_place_takes(
-    alloc: Global,
-    out: &mut Vec<u8>,
-    stop: &Stop,
-    index: usize,
-    cap: Cap,
-) -> Result<(), AllocError>
-    ensures { OnOk result (out.new.items ≡ out.old.items ++ spec.place_takes stop.now index cap) }
-{
-    push_bytes(out, b" and ")?;
-    push_goal(alloc, out, stop, index)?;
-    push_bytes(out, b", ")?;
-    push_with_article(alloc, out, cap_word(cap))?;
-    push_bytes(out, b", ")?;
-    push_takes(out, cap)
-}
-
-/// Appends that the form of a child does not fit its place.
-#[tactic(auto, unfolding(crate::specs::Goals::part_unfit))]
-pub(crate) fn push_part_unfit(
-    alloc: Global,
-    out: &mut Vec<u8>,
-    stop: &Stop,
-    index: usize,
-    cap: Cap,
-) -> Result<(), AllocError>
-    ensures { OnOk result (out.new.items ≡ out.old.items ++ spec.part_unfit stop.now index cap) }
-{
-    push_part(alloc, out, stop, index)?;
-    push_bytes(out, b" has the form ")?;
-    push_found(out, stop, stop.child_form(index))?;
-    push_place_takes(alloc, out, stop, index, cap)
-}
-
-/// Appends that the form of a receiver does not fit.
-#[tactic(auto, unfolding(crate::specs::Goals::receiver_unfit))]
-pub(crate) fn push_receiver_unfit(
-    alloc: Global,
-    out: &mut Vec<u8>,
-    stop: &Stop,
-    index: usize,
-    cap: Cap,
-) -> Result<(), AllocError>
-    ensures { OnOk result (out.new.items ≡ out.old.items ++ spec.receiver_unfit stop.now index cap) }
-{
-    push_bytes(out, b"the receiver has the form ")?;
-    push_bytes(out, form_word(stop.child_form(index)))?;
-    push_bytes(out, b", which does not fit ")?;
-    push_bytes(out, cap_word(cap))?;
-    push_method_takes(alloc, out, stop.named(), cap)
-}
-
-// Appends which forms a method takes as its receiver.
-#[tactic(auto, unfolding(crate::specs::Goals::method_takes))]
-fn push_method_takes(
-    alloc: Global,
-    out: &mut Vec<u8>,
-    name: &[u8],
-    cap: Cap,
-) -> Result<(), AllocError>
-    ensures { OnOk result (out.new.items ≡ out.old.items ++ spec.method_takes name.now cap) }
-{
-    push_bytes(out, b": ")?;
-    push_quoted(alloc, out, name)?;
-    push_bytes(out, b" takes its receiver as ")?;
-    push_fitting(out, cap)
 }

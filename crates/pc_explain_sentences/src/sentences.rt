@@ -1,70 +1,81 @@
 //! The sentence of a condition that does not hold.
 ghost use Rattle.std.specs.Prelude.{◌≡◌, ◌++◌, OnOk};
-ghost use Rattle.std.specs.Option.{option_copied};
 ghost use Rattle.pc_explain_sentences.specs.Sentences as spec;
 
-use crate::goals::{push_form, push_goal, push_part, push_part_unfit, push_receiver_unfit};
+use crate::fills::{Fill, push_filled};
 use crate::slots::{consumed_at, looped_field, lost_slot};
 use crate::stop::Stop;
+use crate::texts::{
+    BUILTIN_COUNT, COMPARED, CONSUMED, FIXED, INTO_ISO, INTO_TRN, LET, LOOPED, LOST, METHOD_COUNT,
+    NO_FIELD, NO_FUNCTION, NO_METHOD, NOT_BELOW, NOT_ISOLATED, NOT_JUST, NOT_LENT, NOT_LIFTED,
+    NOT_LIVE, NOT_REACHED, NOT_SENT, NOT_UNDER, PARAMETER, PART_UNFIT, PRINTED, RECEIVER_UNFIT,
+    SET, UNREADABLE, UNSEEN, UNSET, UNTYPED, UNWRITABLE,
+};
 use crate::untyped::push_reason;
 use pc_ann::Rule;
-use pc_caps::{Cap, Form, lift};
-use pc_core::{Core, Method, NodeKind};
+use pc_caps::{Cap, Form};
 use pc_explain_conditions::{Condition, Reason};
 use pc_explain_parts::{Role, child_role, shown_node};
-use pc_explain_window::{push_bytes, push_number, push_piece, push_place, push_quoted};
-use pc_explain_words::{
-    cap_word, child, entity_name, form_word, name_text, push_entity, push_method_name,
-    push_why_not_below, push_with_article,
-};
+use pc_explain_words::{child, push_why_not_below};
 use std::alloc::{AllocError, Global};
 
-const COMPARED: &[u8] = b": `==` compares two U64, two Bool or two String";
-
-const PRINTED: &[u8] = b", and must be a U64 or a Bool, or have a method `string`";
-
-const UNREADABLE: &[u8] = b", which is not readable: its form must be below box";
-
-const UNSEEN: &[u8] = b", and nothing can be read through it";
-
-const FIXED: &[u8] = b" is a `let`, which only a constructor can write, and only once";
-
-const UNWRITABLE: &[u8] = b", and nothing can be written through it: only through iso, trn and ref";
-
-const UNSET: &[u8] =
-    b" is not set here: a constructor can read a field only once it is set on every path";
-
-const SET: &[u8] = b" is a `let` and is already set here";
-
-const NOT_ISOLATED: &[u8] = b", and only an iso or a trn can be lent";
-
-const LOST: &[u8] =
-    b" is live before the loop but not after its body, so the next turn could not use it";
-
-const LOOPED: &[u8] = b" is set in the loop, which may run no turn or several";
-
-// Appends why the node that a part shows has no type.
-fn push_reason_of(
+// Appends a sentence about a part and its form.
+fn push_of_form(
     alloc: Global,
     out: &mut Vec<u8>,
     stop: &Stop,
-    role: Role,
-    node: Option<u32>,
+    sentence: &[u8],
+    index: usize,
 ) -> Result<(), AllocError>
-    ensures { OnOk result (out.new.items ≡ out.old.items ++ spec.reason_of stop.now role node) }
+    ensures { OnOk result (out.new.items ≡ out.old.items ++ spec.of_form stop.now sentence.now index) }
 {
-    match node {
-        Some(number) => push_reason(
-            alloc,
-            out,
-            stop.scene(),
-            shown_node(stop.core(), role, number),
-        ),
+    push_filled(
+        alloc,
+        out,
+        stop,
+        sentence,
+        &[Fill::Part(index), Fill::PartForm(index)],
+    )
+}
+
+// Appends a sentence about a part and its entity.
+fn push_of_entity(
+    alloc: Global,
+    out: &mut Vec<u8>,
+    stop: &Stop,
+    sentence: &[u8],
+    index: usize,
+) -> Result<(), AllocError>
+    ensures { OnOk result (out.new.items ≡ out.old.items ++ spec.of_entity stop.now sentence.now index) }
+{
+    push_filled(
+        alloc,
+        out,
+        stop,
+        sentence,
+        &[Fill::Part(index), Fill::APartEntity(index)],
+    )
+}
+
+// Appends why the node that a part shows has no type.
+fn push_part_reason(
+    alloc: Global,
+    out: &mut Vec<u8>,
+    stop: &Stop,
+    index: usize,
+) -> Result<(), AllocError>
+    ensures { OnOk result (out.new.items ≡ out.old.items ++ spec.part_reason stop.now index) }
+{
+    let node = stop.node();
+    match child(node, index) {
+        Some(number) => {
+            let shown = shown_node(stop.core(), child_role(node, index), number);
+            push_reason(alloc, out, stop.scene(), shown)
+        }
         None => Ok(()),
     }
 }
 
-#[tactic(auto, unfolding(crate::specs::Sentences::untyped))]
 fn push_untyped(
     alloc: Global,
     out: &mut Vec<u8>,
@@ -73,26 +84,8 @@ fn push_untyped(
 ) -> Result<(), AllocError>
     ensures { OnOk result (out.new.items ≡ out.old.items ++ spec.untyped stop.now index) }
 {
-    push_part(alloc, out, stop, index)?;
-    push_bytes(out, b" has no type: ")?;
-    let node = stop.node();
-    push_reason_of(
-        alloc,
-        out,
-        stop,
-        child_role(node, index),
-        child(node, index),
-    )
-}
-
-// Appends `R is a E`.
-#[tactic(auto, unfolding(crate::specs::Sentences::is_a))]
-fn push_is_a(alloc: Global, out: &mut Vec<u8>, stop: &Stop, index: usize) -> Result<(), AllocError>
-    ensures { OnOk result (out.new.items ≡ out.old.items ++ spec.is_a stop.now index) }
-{
-    push_part(alloc, out, stop, index)?;
-    push_bytes(out, b" is ")?;
-    push_with_article(alloc, out, stop.child_entity(index))
+    push_filled(alloc, out, stop, UNTYPED, &[Fill::Part(index)])?;
+    push_part_reason(alloc, out, stop, index)
 }
 
 // Appends which method of an interface the entity of a type lacks.
@@ -100,10 +93,10 @@ fn push_why_not(
     alloc: Global,
     out: &mut Vec<u8>,
     stop: &Stop,
-    ty: Option<(u32, Form)>,
     above: u32,
+    ty: Option<(u32, Form)>,
 ) -> Result<(), AllocError>
-    ensures { OnOk result (out.new.items ≡ out.old.items ++ spec.why_not stop.now ty above) }
+    ensures { OnOk result (out.new.items ≡ out.old.items ++ spec.why_not stop.now above ty) }
 {
     match ty {
         Some(found) => push_why_not_below(alloc, out, stop.scene(), found.0, above),
@@ -111,7 +104,6 @@ fn push_why_not(
     }
 }
 
-#[tactic(auto, unfolding(crate::specs::Sentences::not_under))]
 fn push_not_under(
     alloc: Global,
     out: &mut Vec<u8>,
@@ -121,15 +113,53 @@ fn push_not_under(
 ) -> Result<(), AllocError>
     ensures { OnOk result (out.new.items ≡ out.old.items ++ spec.not_under stop.now index entity) }
 {
-    push_is_a(alloc, out, stop, index)?;
-    push_bytes(out, b", which is not below ")?;
-    push_entity(alloc, out, stop.core(), entity)?;
-    push_bytes(out, b", the entity of ")?;
-    push_goal(alloc, out, stop, index)?;
-    push_why_not(alloc, out, stop, stop.child_type(index), entity)
+    let fills = [
+        Fill::Part(index),
+        Fill::APartEntity(index),
+        Fill::Entity(entity),
+        Fill::PartGoal(index),
+    ];
+    push_filled(alloc, out, stop, NOT_UNDER, &fills)?;
+    push_why_not(alloc, out, stop, entity, stop.child_type(index))
 }
 
-#[tactic(auto, unfolding(crate::specs::Sentences::unfit))]
+fn push_receiver_unfit(
+    alloc: Global,
+    out: &mut Vec<u8>,
+    stop: &Stop,
+    index: usize,
+    cap: Cap,
+) -> Result<(), AllocError>
+    ensures { OnOk result (out.new.items ≡ out.old.items ++ spec.receiver_unfit stop.now index cap) }
+{
+    let fills = [
+        Fill::PartForm(index),
+        Fill::OneCap(cap),
+        Fill::Named,
+        Fill::Fitting(cap),
+    ];
+    push_filled(alloc, out, stop, RECEIVER_UNFIT, &fills)
+}
+
+fn push_part_unfit(
+    alloc: Global,
+    out: &mut Vec<u8>,
+    stop: &Stop,
+    index: usize,
+    cap: Cap,
+) -> Result<(), AllocError>
+    ensures { OnOk result (out.new.items ≡ out.old.items ++ spec.part_unfit stop.now index cap) }
+{
+    let fills = [
+        Fill::Part(index),
+        Fill::PartFound(index),
+        Fill::PartGoal(index),
+        Fill::ACap(cap),
+        Fill::Takes(cap),
+    ];
+    push_filled(alloc, out, stop, PART_UNFIT, &fills)
+}
+
 fn push_unfit(
     alloc: Global,
     out: &mut Vec<u8>,
@@ -154,121 +184,24 @@ fn push_unfit(
     }
 }
 
-#[tactic(auto, unfolding(crate::specs::Sentences::not_below))]
-fn push_not_below(
-    alloc: Global,
-    out: &mut Vec<u8>,
-    stop: &Stop,
-    index: usize,
-    form: Form,
-) -> Result<(), AllocError>
-    ensures { OnOk result (out.new.items ≡ out.old.items ++ spec.not_below stop.now index form) }
-{
-    push_form(alloc, out, stop, index)?;
-    push_bytes(out, b", which is not below ")?;
-    push_bytes(out, form_word(form))?;
-    push_bytes(out, b", the form of the result")
-}
-
-#[tactic(auto, unfolding(crate::specs::Sentences::not_just))]
-fn push_not_just(
-    alloc: Global,
-    out: &mut Vec<u8>,
-    stop: &Stop,
-    index: usize,
-    entity: u32,
-) -> Result<(), AllocError>
-    ensures { OnOk result (out.new.items ≡ out.old.items ++ spec.not_just stop.now index entity) }
-{
-    push_is_a(alloc, out, stop, index)?;
-    push_bytes(out, b", and must be ")?;
-    push_with_article(alloc, out, entity_name(stop.core(), entity))
-}
-
-// Appends where a slot with this name is consumed, if it is.
-#[tactic(auto, unfolding(crate::specs::Sentences::consumed_words))]
-fn push_consumed(
-    alloc: Global,
-    out: &mut Vec<u8>,
-    stop: &Stop,
-    name: &[u8],
-    at: Option<u32>,
-) -> Result<(), AllocError>
-    ensures { OnOk result (out.new.items ≡ out.old.items ++ spec.consumed_words stop.now name.now at) }
-{
-    match at {
-        Some(start) => {
-            push_bytes(out, b": `consume ")?;
-            push_piece(alloc, out, name)?;
-            push_bytes(out, b"` stands at ")?;
-            push_place(alloc, out, stop.scene().bytes(), start)
-        }
-        None => Ok(()),
-    }
-}
-
-#[tactic(auto, unfolding(crate::specs::Sentences::not_live))]
 fn push_not_live(alloc: Global, out: &mut Vec<u8>, stop: &Stop, slot: u32) -> Result<(), AllocError>
     ensures { OnOk result (out.new.items ≡ out.old.items ++ spec.not_live stop.now slot) }
 {
-    let name = stop.own_slot(slot);
-    push_quoted(alloc, out, name)?;
-    push_bytes(out, b" is not live here")?;
-    push_consumed(alloc, out, stop, name, consumed_at(stop, slot))
-}
-
-fn cap_or_none(ty: Option<(u32, Cap)>) -> &'static [u8]
-    ensures { result.now ≡ spec.cap_or_none ty }
-{
-    match ty {
-        Some(found) => cap_word(found.1),
-        None => b"",
+    match consumed_at(stop, slot) {
+        Some(at) => {
+            let fills = [Fill::Slot(slot), Fill::Slot(slot), Fill::Place(at)];
+            push_filled(alloc, out, stop, CONSUMED, &fills)
+        }
+        None => push_filled(alloc, out, stop, NOT_LIVE, &[Fill::Slot(slot)]),
     }
 }
 
-fn is_assign(kind: &NodeKind) -> bool
-    ensures { result ≡ spec.is_assign kind.now }
+fn not_variable_by(param: bool) -> &'static [u8]
+    ensures { result.now ≡ spec.not_variable_by param }
 {
-    matches!(kind, NodeKind::Assign(_))
+    if param { PARAMETER } else { LET }
 }
 
-fn used_word(assigned: bool) -> &'static [u8]
-    ensures { result.now ≡ spec.used_word assigned }
-{
-    if assigned { b"assigned" } else { b"used" }
-}
-
-#[tactic(auto, unfolding(crate::specs::Sentences::not_reached))]
-fn push_not_reached(
-    alloc: Global,
-    out: &mut Vec<u8>,
-    stop: &Stop,
-    slot: u32,
-) -> Result<(), AllocError>
-    ensures { OnOk result (out.new.items ≡ out.old.items ++ spec.not_reached stop.now slot) }
-{
-    let node = stop.node();
-    push_quoted(alloc, out, stop.own_slot(slot))?;
-    push_bytes(out, b" comes from outside this recover, and ")?;
-    push_bytes(out, cap_or_none(stop.scene().slot_type(node.method, slot)))?;
-    push_bytes(
-        out,
-        b" is not sendable: inside, only outer locals of iso, val or tag are ",
-    )?;
-    push_bytes(out, used_word(is_assign(&node.kind)))
-}
-
-fn fixed_word(param: bool) -> &'static [u8]
-    ensures { result.now ≡ spec.fixed_word param }
-{
-    if param {
-        b" is a parameter"
-    } else {
-        b" is a `let`"
-    }
-}
-
-#[tactic(auto, unfolding(crate::specs::Sentences::not_variable))]
 fn push_not_variable(
     alloc: Global,
     out: &mut Vec<u8>,
@@ -278,93 +211,29 @@ fn push_not_variable(
     ensures { OnOk result (out.new.items ≡ out.old.items ++ spec.not_variable stop.now slot) }
 {
     let param = stop.scene().is_param(stop.node().method, slot);
-    push_quoted(alloc, out, stop.own_slot(slot))?;
-    push_bytes(out, fixed_word(param))?;
-    push_bytes(out, b", and only a `var` can be assigned")
+    push_filled(
+        alloc,
+        out,
+        stop,
+        not_variable_by(param),
+        &[Fill::Slot(slot)],
+    )
 }
 
-// Appends ``E has no WORD `n` ``.
-#[tactic(auto, unfolding(crate::specs::Sentences::has_none))]
-fn push_has_none(
-    alloc: Global,
-    out: &mut Vec<u8>,
-    owner: &[u8],
-    word: &[u8],
-    name: &[u8],
-) -> Result<(), AllocError>
-    ensures { OnOk result (out.new.items ≡ out.old.items ++ spec.has_none owner.now word.now name.now) }
-{
-    push_piece(alloc, out, owner)?;
-    push_bytes(out, b" has no ")?;
-    push_bytes(out, word)?;
-    push_bytes(out, b" ")?;
-    push_quoted(alloc, out, name)
-}
-
-// Appends ``the field `f` `` and more words.
-#[tactic(auto, unfolding(crate::specs::Sentences::field_words))]
-fn push_field(alloc: Global, out: &mut Vec<u8>, name: &[u8], words: &[u8]) -> Result<(), AllocError>
-    ensures { OnOk result (out.new.items ≡ out.old.items ++ spec.field_words name.now words.now) }
-{
-    push_bytes(out, b"the field ")?;
-    push_quoted(alloc, out, name)?;
-    push_bytes(out, words)
-}
-
-fn origin_words(form: Form) -> &'static [u8]
-    ensures { result.now ≡ spec.origin_words form }
+fn not_entering_by(form: Form) -> &'static [u8]
+    ensures { result.now ≡ spec.not_entering_by form }
 {
     match form {
-        Form::Trn | Form::TrnE => {
-            b"into a trn only iso^, trn^, val and tag can be written, and iso into a field of tag"
-        }
-        Form::Iso | Form::IsoE | Form::Ref | Form::Val | Form::Box | Form::Tag => {
-            b"into an iso only iso^, val and tag can be written, and iso into a field of tag"
-        }
+        Form::Trn | Form::TrnE => INTO_TRN,
+        Form::Iso | Form::IsoE | Form::Ref | Form::Val | Form::Box | Form::Tag => INTO_ISO,
     }
 }
 
-#[tactic(auto, unfolding(crate::specs::Sentences::not_entering))]
-fn push_not_entering(out: &mut Vec<u8>, stop: &Stop) -> Result<(), AllocError>
+fn push_not_entering(alloc: Global, out: &mut Vec<u8>, stop: &Stop) -> Result<(), AllocError>
     ensures { OnOk result (out.new.items ≡ out.old.items ++ spec.not_entering stop.now) }
 {
-    push_bytes(out, origin_words(stop.child_form(1)))?;
-    push_bytes(out, b"; the value has the form ")?;
-    push_bytes(out, form_word(stop.child_form(0)))
-}
-
-// Appends `E.m`, if there is a method.
-fn push_method_or_none(
-    alloc: Global,
-    out: &mut Vec<u8>,
-    core: &Core,
-    method: Option<&Method>,
-) -> Result<(), AllocError>
-    ensures { OnOk result (out.new.items ≡ out.old.items ++ spec.method_or_none core.now (option_copied method.entry)) }
-{
-    match method {
-        Some(found) => push_method_name(alloc, out, core, found),
-        None => Ok(()),
-    }
-}
-
-#[tactic(auto, unfolding(crate::specs::Sentences::no_function))]
-fn push_no_function(alloc: Global, out: &mut Vec<u8>, stop: &Stop) -> Result<(), AllocError>
-    ensures { OnOk result (out.new.items ≡ out.old.items ++ spec.no_function stop.now) }
-{
-    push_bytes(out, b"`")?;
-    push_method_or_none(alloc, out, stop.core(), stop.method())?;
-    push_bytes(out, b"` is a constructor, not a function")
-}
-
-// The name of a method, if there is one.
-fn name_or_none<'a>(core: &'a Core, method: Option<&Method>) -> &'a [u8]
-    ensures { result.now ≡ spec.name_or_none core.now (option_copied method.entry) }
-{
-    match method {
-        Some(found) => name_text(core, found.name),
-        None => b"",
-    }
+    let sentence = not_entering_by(stop.child_form(1));
+    push_filled(alloc, out, stop, sentence, &[Fill::PartForm(0)])
 }
 
 fn is_builtin(rule: Rule) -> bool
@@ -373,52 +242,6 @@ fn is_builtin(rule: Rule) -> bool
     matches!(rule, Rule::Builtin)
 }
 
-fn given_word(count: usize) -> &'static [u8]
-    ensures { result.now ≡ spec.given_word count }
-{
-    if count == 1 {
-        b" is given"
-    } else {
-        b" are given"
-    }
-}
-
-fn arguments_word(count: usize) -> &'static [u8]
-    ensures { result.now ≡ spec.arguments_word count }
-{
-    if count == 1 {
-        b" argument, and "
-    } else {
-        b" arguments, and "
-    }
-}
-
-fn push_builtin_count(alloc: Global, out: &mut Vec<u8>, given: usize) -> Result<(), AllocError>
-    ensures { OnOk result (out.new.items ≡ out.old.items ++ spec.builtin_count given) }
-{
-    push_bytes(out, b"`string` of U64 and Bool takes no arguments, and ")?;
-    push_number(alloc, out, given as u64)?;
-    push_bytes(out, given_word(given))
-}
-
-fn push_method_count(
-    alloc: Global,
-    out: &mut Vec<u8>,
-    name: &[u8],
-    given: usize,
-    wanted: usize,
-) -> Result<(), AllocError>
-    ensures { OnOk result (out.new.items ≡ out.old.items ++ spec.argument_count_words name.now given wanted) }
-{
-    push_quoted(alloc, out, name)?;
-    push_bytes(out, b" takes ")?;
-    push_number(alloc, out, wanted as u64)?;
-    push_bytes(out, arguments_word(wanted))?;
-    push_number(alloc, out, given as u64)?;
-    push_bytes(out, given_word(given))
-}
-
-#[tactic(auto, unfolding(crate::specs::Sentences::miscounted))]
 fn push_miscounted(
     alloc: Global,
     out: &mut Vec<u8>,
@@ -430,52 +253,20 @@ fn push_miscounted(
     ensures { OnOk result (out.new.items ≡ out.old.items ++ spec.miscounted stop.now rule given wanted) }
 {
     if is_builtin(rule) {
-        push_builtin_count(alloc, out, given)
+        let fills = [Fill::Number(given), Fill::IsOrAre(given)];
+        push_filled(alloc, out, stop, BUILTIN_COUNT, &fills)
     } else {
-        let name = name_or_none(stop.core(), stop.method());
-        push_method_count(alloc, out, name, given, wanted)
+        let fills = [
+            Fill::MethodName,
+            Fill::Number(wanted),
+            Fill::ArgumentWord(wanted),
+            Fill::Number(given),
+            Fill::IsOrAre(given),
+        ];
+        push_filled(alloc, out, stop, METHOD_COUNT, &fills)
     }
 }
 
-#[tactic(auto, unfolding(crate::specs::Sentences::not_lent))]
-fn push_not_lent(alloc: Global, out: &mut Vec<u8>, stop: &Stop, cap: Cap) -> Result<(), AllocError>
-    ensures { OnOk result (out.new.items ≡ out.old.items ++ spec.not_lent stop.now cap) }
-{
-    push_quoted(alloc, out, stop.named())?;
-    push_bytes(out, b" takes its receiver as ")?;
-    push_bytes(out, cap_word(cap))?;
-    push_bytes(out, b", and a receiver can be lent only as ref or box")
-}
-
-#[tactic(auto, unfolding(crate::specs::Sentences::not_sent))]
-fn push_not_sent(
-    alloc: Global,
-    out: &mut Vec<u8>,
-    stop: &Stop,
-    index: usize,
-    cap: Cap,
-) -> Result<(), AllocError>
-    ensures { OnOk result (out.new.items ≡ out.old.items ++ spec.not_sent stop.now index cap) }
-{
-    push_form(alloc, out, stop, index)?;
-    push_bytes(out, b" and goes to a ")?;
-    push_bytes(out, cap_word(cap))?;
-    push_bytes(
-        out,
-        b" parameter: beside a lent receiver an argument must have the form iso^, iso, val or tag, or go to a parameter of iso, val or tag",
-    )
-}
-
-fn cap_text(cap: Option<Cap>) -> &'static [u8]
-    ensures { result.now ≡ spec.optional_cap_text cap }
-{
-    match cap {
-        Some(found) => cap_word(found),
-        None => b"",
-    }
-}
-
-#[tactic(auto, unfolding(crate::specs::Sentences::not_lifted))]
 fn push_not_lifted(
     alloc: Global,
     out: &mut Vec<u8>,
@@ -484,58 +275,14 @@ fn push_not_lifted(
 ) -> Result<(), AllocError>
     ensures { OnOk result (out.new.items ≡ out.old.items ++ spec.not_lifted stop.now written) }
 {
-    let lifted = form_word(lift(stop.child_form(0)));
-    push_form(alloc, out, stop, 0)?;
-    push_bytes(out, b", which a recover lifts to ")?;
-    push_bytes(out, lifted)?;
-    push_bytes(out, b", and ")?;
-    push_bytes(out, lifted)?;
-    push_bytes(out, b" does not fit ")?;
-    push_bytes(out, cap_text(written))
-}
-
-// Appends `R has the form F`, and more words.
-#[tactic(auto, unfolding(crate::specs::Sentences::form_and))]
-fn push_form_and(
-    alloc: Global,
-    out: &mut Vec<u8>,
-    stop: &Stop,
-    index: usize,
-    words: &[u8],
-) -> Result<(), AllocError>
-    ensures { OnOk result (out.new.items ≡ out.old.items ++ spec.form_and stop.now index words.now) }
-{
-    push_form(alloc, out, stop, index)?;
-    push_bytes(out, words)
-}
-
-// Appends `R is a E`, and more words.
-#[tactic(auto, unfolding(crate::specs::Sentences::is_a_and))]
-fn push_is_a_and(
-    alloc: Global,
-    out: &mut Vec<u8>,
-    stop: &Stop,
-    index: usize,
-    words: &[u8],
-) -> Result<(), AllocError>
-    ensures { OnOk result (out.new.items ≡ out.old.items ++ spec.is_a_and stop.now index words.now) }
-{
-    push_is_a(alloc, out, stop, index)?;
-    push_bytes(out, words)
-}
-
-// Appends a name between backquotes, and more words.
-#[tactic(auto, unfolding(crate::specs::Sentences::name_and))]
-fn push_name_and(
-    alloc: Global,
-    out: &mut Vec<u8>,
-    name: &[u8],
-    words: &[u8],
-) -> Result<(), AllocError>
-    ensures { OnOk result (out.new.items ≡ out.old.items ++ spec.name_and name.now words.now) }
-{
-    push_quoted(alloc, out, name)?;
-    push_bytes(out, words)
+    let fills = [
+        Fill::Part(0),
+        Fill::PartForm(0),
+        Fill::LiftedForm,
+        Fill::LiftedForm,
+        Fill::WrittenCap(written),
+    ];
+    push_filled(alloc, out, stop, NOT_LIFTED, &fills)
 }
 
 /// Appends the sentence of a reason: the first condition of the rule that does not hold at the node.
@@ -548,53 +295,90 @@ pub fn push_sentence(
 ) -> Result<(), AllocError>
     ensures { OnOk result (out.new.items ≡ out.old.items ++ spec.sentence stop.now reason) }
 {
-    let core = stop.core();
     match reason.condition {
         Condition::Typed(child) => push_untyped(alloc, out, stop, child),
         Condition::Under(child, entity) => push_not_under(alloc, out, stop, child, entity),
         Condition::Fits(child, cap) => push_unfit(alloc, out, stop, child, cap),
-        Condition::Below(child, form) => push_not_below(alloc, out, stop, child, form),
-        Condition::IsA(child, entity) => push_not_just(alloc, out, stop, child, entity),
-        Condition::Comparable(child) => push_is_a_and(alloc, out, stop, child, COMPARED),
-        Condition::Printable(child) => push_is_a_and(alloc, out, stop, child, PRINTED),
-        Condition::Readable(child) => push_form_and(alloc, out, stop, child, UNREADABLE),
+        Condition::Below(child, form) => {
+            let fills = [
+                Fill::Part(child),
+                Fill::PartForm(child),
+                Fill::OneForm(form),
+            ];
+            push_filled(alloc, out, stop, NOT_BELOW, &fills)
+        }
+        Condition::IsA(child, entity) => {
+            let fills = [
+                Fill::Part(child),
+                Fill::APartEntity(child),
+                Fill::AnEntity(entity),
+            ];
+            push_filled(alloc, out, stop, NOT_JUST, &fills)
+        }
+        Condition::Comparable(child) => push_of_entity(alloc, out, stop, COMPARED, child),
+        Condition::Printable(child) => push_of_entity(alloc, out, stop, PRINTED, child),
+        Condition::Readable(child) => push_of_form(alloc, out, stop, UNREADABLE, child),
         Condition::Live(slot) => push_not_live(alloc, out, stop, slot),
-        Condition::Reached(slot) => push_not_reached(alloc, out, stop, slot),
+        Condition::Reached(slot) => {
+            let fills = [Fill::Slot(slot), Fill::SlotCap(slot), Fill::UsedWord];
+            push_filled(alloc, out, stop, NOT_REACHED, &fills)
+        }
         Condition::Variable(slot) => push_not_variable(alloc, out, stop, slot),
         Condition::HasField(child, name) => {
-            let owner = stop.child_entity(child);
-            push_has_none(alloc, out, owner, b"field", name_text(core, name))
+            let fills = [Fill::PartEntity(child), Fill::Name(name)];
+            push_filled(alloc, out, stop, NO_FIELD, &fills)
         }
         Condition::HasOwnField(name) => {
-            push_has_none(
+            push_filled(
                 alloc,
                 out,
-                stop.own_entity(),
-                b"field",
-                name_text(core, name),
+                stop,
+                NO_FIELD,
+                &[Fill::OwnEntity, Fill::Name(name)],
             )
         }
-        Condition::Seen(child, _) => push_form_and(alloc, out, stop, child, UNSEEN),
-        Condition::NotFixed(_) => push_field(alloc, out, stop.named(), FIXED),
-        Condition::Writable(child, _) => push_form_and(alloc, out, stop, child, UNWRITABLE),
-        Condition::Enters(_) => push_not_entering(out, stop),
-        Condition::Set(field) => push_field(alloc, out, stop.own_field(field), UNSET),
-        Condition::SetOnce(_, field) => push_field(alloc, out, stop.own_field(field), SET),
-        Condition::HasMethod(name) => {
-            let owner = stop.child_entity(stop.receiver_index());
-            push_has_none(alloc, out, owner, b"method", name_text(core, name))
+        Condition::Seen(child, _) => push_of_form(alloc, out, stop, UNSEEN, child),
+        Condition::NotFixed(_) => push_filled(alloc, out, stop, FIXED, &[Fill::Named]),
+        Condition::Writable(child, _) => push_of_form(alloc, out, stop, UNWRITABLE, child),
+        Condition::Enters(_) => push_not_entering(alloc, out, stop),
+        Condition::Set(field) => push_filled(alloc, out, stop, UNSET, &[Fill::OwnField(field)]),
+        Condition::SetOnce(_, field) => {
+            push_filled(alloc, out, stop, SET, &[Fill::OwnField(field)])
         }
-        Condition::Function(_) => push_no_function(alloc, out, stop),
+        Condition::HasMethod(name) => {
+            let fills = [Fill::PartEntity(stop.receiver_index()), Fill::Name(name)];
+            push_filled(alloc, out, stop, NO_METHOD, &fills)
+        }
+        Condition::Function(_) => push_filled(alloc, out, stop, NO_FUNCTION, &[Fill::Method]),
         Condition::Behaviour(_) | Condition::Unfit(_, _) => Ok(()),
         Condition::Counted(given, wanted) => {
             push_miscounted(alloc, out, stop, reason.rule, given, wanted)
         }
-        Condition::Isolated(child) => push_form_and(alloc, out, stop, child, NOT_ISOLATED),
-        Condition::Lent(cap) => push_not_lent(alloc, out, stop, cap),
-        Condition::Sent(child, cap) => push_not_sent(alloc, out, stop, child, cap),
-        Condition::KeepsLive => { push_name_and(alloc, out, stop.own_slot(lost_slot(stop)), LOST) }
+        Condition::Isolated(child) => push_of_form(alloc, out, stop, NOT_ISOLATED, child),
+        Condition::Lent(cap) => {
+            push_filled(
+                alloc,
+                out,
+                stop,
+                NOT_LENT,
+                &[Fill::Named, Fill::OneCap(cap)],
+            )
+        }
+        Condition::Sent(child, cap) => {
+            let fills = [Fill::Part(child), Fill::PartForm(child), Fill::OneCap(cap)];
+            push_filled(alloc, out, stop, NOT_SENT, &fills)
+        }
+        Condition::KeepsLive => {
+            push_filled(alloc, out, stop, LOST, &[Fill::Slot(lost_slot(stop))])
+        }
         Condition::KeepsSet => {
-            push_field(alloc, out, stop.own_field(looped_field(stop)), LOOPED)
+            push_filled(
+                alloc,
+                out,
+                stop,
+                LOOPED,
+                &[Fill::OwnField(looped_field(stop))],
+            )
         }
         Condition::Lifted(written) => push_not_lifted(alloc, out, stop, written),
     }

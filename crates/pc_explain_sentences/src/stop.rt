@@ -5,7 +5,7 @@ ghost use Rattle.pc_explain_sentences.specs.Stop as spec;
 
 use pc_caps::Form;
 use pc_core::{Core, EntityDef, Method, Node, NodeKind};
-use pc_explain_parts::callee;
+use pc_explain_parts::{callee, child_role, shown_node};
 use pc_explain_words::{Scene, child, entity_name, name_text};
 use pc_masks::Mask;
 use std::marker::Model;
@@ -40,6 +40,13 @@ impl<'a> Stop<'a> {
             live,
             set,
         }
+    }
+
+    /// A node of the scene, with empty masks.
+    pub(crate) fn without_masks(scene: &'a Scene<'a>, number: u32, node: &'a Node) -> Stop<'a>
+        ensures { result ≡ spec.stop_without_masks scene.now number node.now }
+    {
+        Stop::new(scene, number, node, Mask::first(0), Mask::first(0))
     }
 
     /// What the explanation looks at.
@@ -115,11 +122,28 @@ impl<'a> Stop<'a> {
         }
     }
 
+    /// The node that the child with this index shows.
+    #[tactic(auto, unfolding(crate::specs::Stop::child_node))]
+    pub fn child_node(&self, index: usize) -> Option<&'a Node>
+        ensures { option_copied result ≡ spec.child_node self.now index }
+    {
+        let number = child(self.node, index)?;
+        let core = self.scene.core();
+        core.node_at(shown_node(core, child_role(self.node, index), number))
+    }
+
     /// The index of a call's receiver.
     pub fn receiver_index(&self) -> usize
         ensures { result ≡ spec.receiver_child_index self.now }
     {
         self.node.children.len().saturating_sub(1)
+    }
+
+    /// The method that the node belongs to.
+    pub fn own_method(&self) -> Option<&'a Method>
+        ensures { option_copied result ≡ spec.own_method self.now }
+    {
+        self.scene.core().method_at(self.node.method)
     }
 
     /// The method whose parameters the arguments go to.

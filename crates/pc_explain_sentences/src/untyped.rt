@@ -1,14 +1,16 @@
 //! Why a value has no type.
 ghost use Rattle.std.specs.Prelude.{◌≡◌, ◌++◌, OnOk, slice_get};
-ghost use Rattle.std.specs.Option.{option_copied};
 ghost use Rattle.pc_rules.specs.Parts.{last_child as last_child_is};
 ghost use Rattle.pc_explain_sentences.specs.Untyped as spec;
 
-use pc_caps::Form;
-use pc_core::{Core, Method, Node, NodeKind};
-use pc_explain_parts::callee;
-use pc_explain_window::{push_bytes, push_quoted};
-use pc_explain_words::{Scene, child, name_text, push_type};
+use crate::fills::{Fill, push_filled};
+use crate::stop::Stop;
+use crate::texts::{
+    ASSIGNED, BRANCHES, DEFINED, FIRST_BRANCH, LAST_ITEM, LENT, SECOND_BRANCH, WRITTEN,
+};
+use pc_core::{Node, NodeKind};
+use pc_explain_window::push_bytes;
+use pc_explain_words::{Scene, child};
 use std::alloc::{AllocError, Global};
 
 /// A step to the part, by number, because of which a node has no type.
@@ -94,9 +96,9 @@ fn step_words(step: Step) -> &'static [u8]
     ensures { result.now ≡ spec.step_words step }
 {
     match step {
-        Step::LastItem(_) => b"its last item has none: ",
-        Step::FirstBranch(_) => b"its first branch has none: ",
-        Step::SecondBranch(_) => b"its second branch has none: ",
+        Step::LastItem(_) => LAST_ITEM,
+        Step::FirstBranch(_) => FIRST_BRANCH,
+        Step::SecondBranch(_) => SECOND_BRANCH,
     }
 }
 
@@ -108,127 +110,26 @@ fn step_to(step: Step) -> u32
     }
 }
 
-// Appends the type of a method's result.
-fn push_result(
-    alloc: Global,
-    out: &mut Vec<u8>,
-    core: &Core,
-    method: Option<&Method>,
-) -> Result<(), AllocError>
-    ensures { OnOk result (out.new.items ≡ out.old.items ++ spec.result_words core.now (option_copied method.entry)) }
-{
-    match method {
-        Some(found) => {
-            push_bytes(out, b" ")?;
-            push_type(alloc, out, core, found.result)
-        }
-        None => Ok(()),
-    }
-}
-
-// Appends the reason for a call whose receiver is lent.
-#[tactic(auto, unfolding(crate::specs::Untyped::lent_reason))]
-fn push_lent(
-    alloc: Global,
-    out: &mut Vec<u8>,
-    scene: &Scene,
-    node: &Node,
-    name: u32,
-) -> Result<(), AllocError>
-    ensures { OnOk result (out.new.items ≡ out.old.items ++ spec.lent_reason scene.now node.now name) }
-{
-    push_bytes(out, b"the receiver is lent to ")?;
-    push_quoted(alloc, out, name_text(scene.core(), name))?;
-    push_bytes(out, b", and its result")?;
-    push_result(alloc, out, scene.core(), callee(scene, node, name))?;
-    push_bytes(out, b" is not sendable")
-}
-
-// Appends the reason for an assignment.
-fn push_assigned(alloc: Global, out: &mut Vec<u8>, name: &[u8]) -> Result<(), AllocError>
-    ensures { OnOk result (out.new.items ≡ out.old.items ++ spec.assign_reason name.now) }
-{
-    push_quoted(alloc, out, name)?;
-    push_bytes(
-        out,
-        b" holds nothing before this assignment, so there is no old value",
-    )
-}
-
-// Appends the reason for the write of a field.
-fn push_written(alloc: Global, out: &mut Vec<u8>, name: &[u8]) -> Result<(), AllocError>
-    ensures { OnOk result (out.new.items ≡ out.old.items ++ spec.write_reason name.now) }
-{
-    push_bytes(out, b"the field ")?;
-    push_quoted(alloc, out, name)?;
-    push_bytes(
-        out,
-        b" is not set before this write, so there is no old value",
-    )
-}
-
-// Appends a type, if there is one.
-fn push_type_or_none(
-    alloc: Global,
-    out: &mut Vec<u8>,
-    core: &Core,
-    ty: Option<(u32, Form)>,
-) -> Result<(), AllocError>
-    ensures { OnOk result (out.new.items ≡ out.old.items ++ spec.type_or_none core.now ty) }
-{
-    match ty {
-        Some(found) => push_type(alloc, out, core, found),
-        None => Ok(()),
-    }
-}
-
-// Appends the type of a branch.
-fn push_branch(
-    alloc: Global,
-    out: &mut Vec<u8>,
-    scene: &Scene,
-    branch: Option<u32>,
-) -> Result<(), AllocError>
-    ensures { OnOk result (out.new.items ≡ out.old.items ++ spec.branch_words scene.now branch) }
-{
-    match branch {
-        Some(node) => push_type_or_none(alloc, out, scene.core(), scene.type_of(node)),
-        None => Ok(()),
-    }
-}
-
-// Appends the reason for branches that both have a type.
-#[tactic(auto, unfolding(crate::specs::Untyped::branches_reason))]
-fn push_branches(
-    alloc: Global,
-    out: &mut Vec<u8>,
-    scene: &Scene,
-    node: &Node,
-) -> Result<(), AllocError>
-    ensures { OnOk result (out.new.items ≡ out.old.items ++ spec.branches_reason scene.now node.now) }
-{
-    push_bytes(out, b"its branches are ")?;
-    push_branch(alloc, out, scene, child(node, 1))?;
-    push_bytes(out, b" and ")?;
-    push_branch(alloc, out, scene, child(node, 2))?;
-    push_bytes(out, b", and neither is below the other")
-}
-
 // Appends the reason for a node that makes no step.
-fn push_reason_by(
-    alloc: Global,
-    out: &mut Vec<u8>,
-    scene: &Scene,
-    node: &Node,
-) -> Result<(), AllocError>
-    ensures { OnOk result (out.new.items ≡ out.old.items ++ spec.reason_by scene.now node.now node.now.kind) }
+fn push_reason_by(alloc: Global, out: &mut Vec<u8>, stop: &Stop) -> Result<(), AllocError>
+    ensures { OnOk result (out.new.items ≡ out.old.items ++ spec.reason_by stop.now stop.now.at.kind) }
 {
-    match &node.kind {
-        NodeKind::Define(_) => push_bytes(out, b"a definition gives no value"),
-        NodeKind::Assign(slot) => { push_assigned(alloc, out, scene.slot_name(node.method, *slot)) }
-        NodeKind::SetField(name) => push_written(alloc, out, name_text(scene.core(), *name)),
-        NodeKind::Call(name) => push_lent(alloc, out, scene, node, *name),
-        NodeKind::If => push_branches(alloc, out, scene, node),
+    match &stop.node().kind {
+        NodeKind::Define(_) => push_filled(alloc, out, stop, DEFINED, &[]),
+        NodeKind::Assign(slot) => push_filled(alloc, out, stop, ASSIGNED, &[Fill::Slot(*slot)]),
+        NodeKind::SetField(name) => push_filled(alloc, out, stop, WRITTEN, &[Fill::Name(*name)]),
+        NodeKind::Call(name) => {
+            push_filled(alloc, out, stop, LENT, &[Fill::Name(*name), Fill::Result])
+        }
+        NodeKind::If => {
+            push_filled(
+                alloc,
+                out,
+                stop,
+                BRANCHES,
+                &[Fill::PartType(1), Fill::PartType(2)],
+            )
+        }
         NodeKind::Number(_)
         | NodeKind::Truth(_)
         | NodeKind::Text(_)
@@ -258,10 +159,10 @@ fn push_own_reason(
     scene: &Scene,
     node: u32,
 ) -> Result<(), AllocError>
-    ensures { OnOk result (out.new.items ≡ out.old.items ++ spec.own_reason scene.now (slice_get scene.now.core.nodes node)) }
+    ensures { OnOk result (out.new.items ≡ out.old.items ++ spec.own_reason scene.now node) }
 {
     match scene.core().node_at(node) {
-        Some(found) => push_reason_by(alloc, out, scene, found),
+        Some(found) => push_reason_by(alloc, out, &Stop::without_masks(scene, node, found)),
         None => Ok(()),
     }
 }
