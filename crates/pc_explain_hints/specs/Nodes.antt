@@ -1,7 +1,7 @@
 -- What a hint looks at.
 use Rattle.std.specs.{Prelude.{ℕ, Bool, true, false, ◌&&◌, nat_eq, Option, Some, None, slice_get, if◌then◌else◌}, List.list_any}
 use Rattle.pc_caps.specs.{Tables.taken, declared.capability.Cap.Cap, declared.capability.Form.Form}
-use Rattle.pc_core.specs.{CoreData.CoreData, declared.declarations.EntityDef.EntityDef, declared.declarations.FieldInfo.FieldInfo, declared.declarations.Method.Method, declared.nodes.Node.Node, declared.nodes.NodeKind.NodeKind}
+use Rattle.pc_core.specs.{CoreData.CoreData, declared.declarations.EntityDef.EntityDef, declared.declarations.FieldInfo.FieldInfo, declared.declarations.Method.Method, declared.nodes.Node.Node, declared.nodes.NodeKind.NodeKind, Kinds.{called_name, local_slot, read_field}}
 use Rattle.pc_base.specs.Lists.{◌>>=◌}
 use Rattle.pc_explain_parts.specs.{Members.{field_of_node, node_callee}, Parts.last_value}
 use Rattle.pc_rules.specs.Calls.{is_function}
@@ -70,13 +70,11 @@ abbrev pub isolated_cap : Option (ℕ × Cap) → Option Cap
 isolated_cap None = None
 isolated_cap (Some ty) = if is_isolated_cap ty.1 then Some ty.1 else None
 
-abbrev pub local_by : StopData → Node → NodeKind → Option Cap
-local_by st x (node.Local k) = isolated_cap (noted_slot_type st.scene x.method k)
-local_by st x k = None
-
 -- The capability of the node, if it is a local of iso or trn.
 unfoldable pub local_cap : StopData → Node → Option Cap
-local_cap st x = local_by st x x.kind
+local_cap st x = do
+  k ← local_slot x.kind
+  isolated_cap (noted_slot_type st.scene x.method k)
 
 abbrev pub old_of : Form → FieldInfo → Option Form
 old_of f field = if field.fixed then None else taken f field.cap
@@ -91,13 +89,11 @@ abbrev pub old_from : StopData → Option ℕ → (name : ℕ) → Option Form
 old_from st None name = None
 old_from st (Some c) name = old_in st c name
 
-abbrev pub old_by : StopData → Node → NodeKind → Option Form
-old_by st x (node.Field name) = old_from st (child x 0) name
-old_by st x k = None
-
 -- The form of the old value of a `var` field that the node reads.
 unfoldable pub old_form : StopData → Node → Option Form
-old_form st x = old_by st x x.kind
+old_form st x = do
+  name ← read_field x.kind
+  old_from st (child x 0) name
 
 -- ---- results
 
@@ -115,13 +111,11 @@ abbrev pub named_form : ℕ → Option Form → Option (ℕ × Form)
 named_form name None = None
 named_form name (Some f) = Some (name, f)
 
-abbrev pub hat_by : StopData → Node → NodeKind → Option (ℕ × Form)
-hat_by st x (node.Call name) = named_form name (hat_result (node_callee st.scene x name))
-hat_by st x k = None
-
 -- The name of the function that the node calls, and the form of its result with `^`, if its result is an alias.
 unfoldable pub called_hat : StopData → Node → Option (ℕ × Form)
-called_hat st x = hat_by st x x.kind
+called_hat st x = do
+  name ← called_name x.kind
+  named_form name (hat_result (node_callee st.scene x name))
 
 -- ---- new objects and assignments
 
@@ -156,13 +150,11 @@ abbrev pub if_iso : ℕ → Option (ℕ × Cap) → Option ℕ
 if_iso k None = None
 if_iso k (Some ty) = if is_iso_cap ty.1 then Some k else None
 
-abbrev pub iso_slot_by : StopData → Node → NodeKind → Option ℕ
-iso_slot_by st x (node.Local k) = if_iso k (noted_slot_type st.scene x.method k)
-iso_slot_by st x k = None
-
 -- The slot that the node reads, if it is a local of iso.
 unfoldable pub iso_slot : StopData → Node → Option ℕ
-iso_slot st x = iso_slot_by st x x.kind
+iso_slot st x = do
+  k ← local_slot x.kind
+  if_iso k (noted_slot_type st.scene x.method k)
 
 -- The local of iso with which the first child of a `recover` ends.
 unfoldable pub end_slot : StopData → Node → Option ℕ
@@ -171,13 +163,14 @@ end_slot st x = do
   e ← slice_get st.scene.core.nodes (last_value st.scene.core c)
   iso_slot st e
 
-abbrev pub recovered_by : StopData → Node → NodeKind → Option ℕ
-recovered_by st x (node.Recover None) = end_slot st x
-recovered_by st x k = None
+-- A `recover` without a written capability.
+abbrev pub is_unwritten : NodeKind → Bool
+is_unwritten (node.Recover None) = true
+is_unwritten k = false
 
 -- The same for any node: none if it is no `recover`, or one whose capability is written.
 unfoldable pub recovered_slot : StopData → Node → Option ℕ
-recovered_slot st x = recovered_by st x x.kind
+recovered_slot st x = if is_unwritten x.kind then end_slot st x else None
 
 -- ---- conditions
 

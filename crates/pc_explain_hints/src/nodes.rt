@@ -115,32 +115,8 @@ fn isolated_cap(ty: Option<(u32, Cap)>) -> Option<Cap>
 pub(crate) fn local_cap(stop: &Stop, node: &Node) -> Option<Cap>
     ensures { result ≡ spec.local_cap stop.now node.now }
 {
-    match &node.kind {
-        NodeKind::Local(slot) => isolated_cap(stop.scene().slot_type(node.method, *slot)),
-        NodeKind::Number(_)
-        | NodeKind::Truth(_)
-        | NodeKind::Text(_)
-        | NodeKind::Prim(_)
-        | NodeKind::This
-        | NodeKind::Consume(_)
-        | NodeKind::Field(_)
-        | NodeKind::SetField(_)
-        | NodeKind::Define(_)
-        | NodeKind::Assign(_)
-        | NodeKind::New(_)
-        | NodeKind::Spawn(_)
-        | NodeKind::Call(_)
-        | NodeKind::Binary(_)
-        | NodeKind::Not
-        | NodeKind::And
-        | NodeKind::Or
-        | NodeKind::Same(_)
-        | NodeKind::Seq
-        | NodeKind::If
-        | NodeKind::While
-        | NodeKind::Recover(_)
-        | NodeKind::Body => None,
-    }
+    let slot = node.kind.local_slot()?;
+    isolated_cap(stop.scene().slot_type(node.method, slot))
 }
 
 fn old_of(form: Form, field: FieldInfo) -> Option<Form>
@@ -176,32 +152,8 @@ fn old_from(stop: &Stop, origin: Option<u32>, name: u32) -> Option<Form>
 pub(crate) fn old_form(stop: &Stop, node: &Node) -> Option<Form>
     ensures { result ≡ spec.old_form stop.now node.now }
 {
-    match &node.kind {
-        NodeKind::Field(name) => old_from(stop, child(node, 0), *name),
-        NodeKind::Number(_)
-        | NodeKind::Truth(_)
-        | NodeKind::Text(_)
-        | NodeKind::Prim(_)
-        | NodeKind::This
-        | NodeKind::Local(_)
-        | NodeKind::Consume(_)
-        | NodeKind::SetField(_)
-        | NodeKind::Define(_)
-        | NodeKind::Assign(_)
-        | NodeKind::New(_)
-        | NodeKind::Spawn(_)
-        | NodeKind::Call(_)
-        | NodeKind::Binary(_)
-        | NodeKind::Not
-        | NodeKind::And
-        | NodeKind::Or
-        | NodeKind::Same(_)
-        | NodeKind::Seq
-        | NodeKind::If
-        | NodeKind::While
-        | NodeKind::Recover(_)
-        | NodeKind::Body => None,
-    }
+    let name = node.kind.read_field()?;
+    old_from(stop, child(node, 0), name)
 }
 
 fn hat_form(form: Form) -> Option<Form>
@@ -244,32 +196,8 @@ fn named_form(name: u32, form: Option<Form>) -> Option<(u32, Form)>
 pub(crate) fn called_hat(stop: &Stop, node: &Node) -> Option<(u32, Form)>
     ensures { result ≡ spec.called_hat stop.now node.now }
 {
-    match &node.kind {
-        NodeKind::Call(name) => named_form(*name, hat_result(callee(stop.scene(), node, *name))),
-        NodeKind::Number(_)
-        | NodeKind::Truth(_)
-        | NodeKind::Text(_)
-        | NodeKind::Prim(_)
-        | NodeKind::This
-        | NodeKind::Local(_)
-        | NodeKind::Consume(_)
-        | NodeKind::Field(_)
-        | NodeKind::SetField(_)
-        | NodeKind::Define(_)
-        | NodeKind::Assign(_)
-        | NodeKind::New(_)
-        | NodeKind::Spawn(_)
-        | NodeKind::Binary(_)
-        | NodeKind::Not
-        | NodeKind::And
-        | NodeKind::Or
-        | NodeKind::Same(_)
-        | NodeKind::Seq
-        | NodeKind::If
-        | NodeKind::While
-        | NodeKind::Recover(_)
-        | NodeKind::Body => None,
-    }
+    let name = node.kind.called_name()?;
+    named_form(name, hat_result(callee(stop.scene(), node, name)))
 }
 
 /// Whether a node of this kind makes an object of a class.
@@ -332,32 +260,8 @@ fn if_iso(slot: u32, ty: Option<(u32, Cap)>) -> Option<u32>
 fn iso_slot(stop: &Stop, node: &Node) -> Option<u32>
     ensures { result ≡ spec.iso_slot stop.now node.now }
 {
-    match &node.kind {
-        NodeKind::Local(slot) => if_iso(*slot, stop.scene().slot_type(node.method, *slot)),
-        NodeKind::Number(_)
-        | NodeKind::Truth(_)
-        | NodeKind::Text(_)
-        | NodeKind::Prim(_)
-        | NodeKind::This
-        | NodeKind::Consume(_)
-        | NodeKind::Field(_)
-        | NodeKind::SetField(_)
-        | NodeKind::Define(_)
-        | NodeKind::Assign(_)
-        | NodeKind::New(_)
-        | NodeKind::Spawn(_)
-        | NodeKind::Call(_)
-        | NodeKind::Binary(_)
-        | NodeKind::Not
-        | NodeKind::And
-        | NodeKind::Or
-        | NodeKind::Same(_)
-        | NodeKind::Seq
-        | NodeKind::If
-        | NodeKind::While
-        | NodeKind::Recover(_)
-        | NodeKind::Body => None,
-    }
+    let slot = node.kind.local_slot()?;
+    if_iso(slot, stop.scene().slot_type(node.method, slot))
 }
 
 /// The local of iso with which the first child of a `recover` ends.
@@ -371,37 +275,22 @@ pub(crate) fn end_slot(stop: &Stop, node: &Node) -> Option<u32>
     iso_slot(stop, end)
 }
 
+// Whether a node of this kind is a `recover` without a written capability.
+fn is_unwritten(kind: &NodeKind) -> bool
+    ensures { result ≡ spec.is_unwritten kind.now }
+{
+    matches!(kind, NodeKind::Recover(None))
+}
+
 /// The local of iso with which the body ends, if the node is a `recover` without a written capability.
 #[tactic(auto, unfolding(crate::specs::Nodes::recovered_slot))]
 pub(crate) fn recovered_slot(stop: &Stop, node: &Node) -> Option<u32>
     ensures { result ≡ spec.recovered_slot stop.now node.now }
 {
-    match &node.kind {
-        NodeKind::Recover(None) => end_slot(stop, node),
-        NodeKind::Number(_)
-        | NodeKind::Truth(_)
-        | NodeKind::Text(_)
-        | NodeKind::Prim(_)
-        | NodeKind::This
-        | NodeKind::Local(_)
-        | NodeKind::Consume(_)
-        | NodeKind::Field(_)
-        | NodeKind::SetField(_)
-        | NodeKind::Define(_)
-        | NodeKind::Assign(_)
-        | NodeKind::New(_)
-        | NodeKind::Spawn(_)
-        | NodeKind::Call(_)
-        | NodeKind::Binary(_)
-        | NodeKind::Not
-        | NodeKind::And
-        | NodeKind::Or
-        | NodeKind::Same(_)
-        | NodeKind::Seq
-        | NodeKind::If
-        | NodeKind::While
-        | NodeKind::Recover(Some(_))
-        | NodeKind::Body => None,
+    if is_unwritten(&node.kind) {
+        end_slot(stop, node)
+    } else {
+        None
     }
 }
 

@@ -61,14 +61,17 @@ abbrev pub is_sent : Option Method → Bool
 is_sent None = false
 is_sent (Some m) = is_behaviour m.kind
 
-abbrev pub sends_by : StopData → NodeKind → Bool
-sends_by st (node.Spawn m) = true
-sends_by st (node.Call name) = is_sent (node_method st)
-sends_by st k = false
+abbrev pub is_spawn_node : NodeKind → Bool
+is_spawn_node (node.Spawn m) = true
+is_spawn_node k = false
+
+abbrev pub is_call_node : NodeKind → Bool
+is_call_node (node.Call name) = true
+is_call_node k = false
 
 -- The node sends its arguments.
 abbrev pub sends_arguments : StopData → Bool
-sends_arguments st = sends_by st st.at.kind
+sends_arguments st = if is_spawn_node st.at.kind then true else (if is_call_node st.at.kind then is_sent (node_method st) else false)
 
 abbrev pub form_note : (sent : Bool) → Form → Text
 form_note sent f = if is_alias f then AN_ALIAS.now else (if sent && not (sendable_form f) then UNSENDABLE.now else [])

@@ -2,17 +2,19 @@
 use Rattle.std.specs.Prelude.{ℕ, zero, suc, ◌+◌, Bool, false, ◌&&◌, not, nat_eq, List, [], ◌∷◌, take, Option, Some, None, slice_get, if◌then◌else◌}
 use Rattle.pc_ann.specs.declared.annotation.Note.{Note}
 use Rattle.pc_base.specs.Limits.{field_limit, slot_limit}
-use Rattle.pc_core.specs.{declared.nodes.Node.Node, declared.nodes.NodeKind.NodeKind}
+use Rattle.pc_core.specs.{declared.nodes.Node.Node, declared.nodes.NodeKind.NodeKind, Kinds.consumed_slot}
 use Rattle.pc_masks.specs.{Masks.has, declared.mask.Mask.Mask}
 use Rattle.pc_explain_words.specs.Scene.{child}
 use Rattle.pc_explain_sentences.specs.Stop.{StopData}
-use Rattle.pc_core.specs.declared.nodes.NodeKind.TheVariants as node
 
 -- ---- where a slot is consumed
 
+abbrev pub is_slot : ℕ → Option ℕ → Bool
+is_slot k None = false
+is_slot k (Some c) = nat_eq c k
+
 abbrev pub consumes_as : ℕ → NodeKind → Bool
-consumes_as k (node.Consume c) = nat_eq c k
-consumes_as k other = false
+consumes_as k kind = is_slot k (consumed_slot kind)
 
 abbrev pub consumes : (method slot : ℕ) → Node → Bool
 consumes m k x = nat_eq x.method m && consumes_as k x.kind

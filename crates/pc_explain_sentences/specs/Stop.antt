@@ -1,13 +1,12 @@
 -- A node at which no rule holds, and what can be read from it.
-use Rattle.std.specs.Prelude.{ℕ, ◌-◌, [], length, Option, Some, None, slice_get}
+use Rattle.std.specs.Prelude.{ℕ, ◌-◌, [], length, Option, Some, None, slice_get, unwrap_or}
 use Rattle.pc_caps.specs.declared.capability.Form.{Form}
-use Rattle.pc_core.specs.{CoreData.CoreData, declared.declarations.EntityDef.EntityDef, declared.declarations.FieldInfo.FieldInfo, declared.declarations.Method.Method, declared.nodes.Node.Node, declared.nodes.NodeKind.NodeKind}
+use Rattle.pc_core.specs.{CoreData.CoreData, declared.declarations.EntityDef.EntityDef, declared.declarations.FieldInfo.FieldInfo, declared.declarations.Method.Method, declared.nodes.Node.Node, declared.nodes.NodeKind.NodeKind, Kinds.{called_name, constructor, member_name}}
 use Rattle.pc_base.specs.Lists.{◌>>=◌, Text}
 use Rattle.pc_masks.specs.{Masks.first, declared.mask.Mask.Mask}
 use Rattle.pc_explain_parts.specs.{Members.node_callee, Parts.{child_role, shown_node}}
 use Rattle.pc_explain_words.specs.{Forms.{entity_name, name_text}, Scene.{SceneData, child, slot_name, noted_type}}
 use Rattle.pc_caps.specs.declared.capability.Form.TheVariants as form
-use Rattle.pc_core.specs.declared.nodes.NodeKind.TheVariants as node
 
 -- The node, its number, and the masks before it.
 pub record StopData : Type 0 where
@@ -56,20 +55,20 @@ receiver_child_index st = length st.at.children - 1
 -- ---- what it names
 
 -- The method whose parameters the arguments go to.
-abbrev pub method_by : StopData → NodeKind → Option Method
-method_by st (node.New m) = slice_get st.scene.core.methods m
-method_by st (node.Spawn m) = slice_get st.scene.core.methods m
-method_by st (node.Call name) = node_callee st.scene st.at name
-method_by st k = None
+abbrev pub method_of_call : StopData → Option Method
+method_of_call st = do
+  name ← called_name st.at.kind
+  node_callee st.scene st.at name
+
+abbrev pub method_by : StopData → (constructor : Option ℕ) → Option Method
+method_by st (Some m) = slice_get st.scene.core.methods m
+method_by st None = method_of_call st
 
 unfoldable pub node_method : StopData → Option Method
-node_method st = method_by st st.at.kind
+node_method st = method_by st (constructor st.at.kind)
 
 abbrev pub name_by : NodeKind → ℕ
-name_by (node.Field name) = name
-name_by (node.SetField name) = name
-name_by (node.Call name) = name
-name_by k = 0
+name_by k = unwrap_or (member_name k) 0
 
 -- The name of a slot of the node's method.
 unfoldable pub own_slot : StopData → ℕ → Text

@@ -1,6 +1,6 @@
 -- Why a value has no type.
 use Rattle.std.specs.{Prelude.{ℕ, zero, suc, [], ◌∷◌, ◌++◌, length, Option, Some, None, slice_get, if◌then◌else◌}, Option.is_none}
-use Rattle.pc_core.specs.{declared.nodes.Node.Node, declared.nodes.NodeKind.NodeKind}
+use Rattle.pc_core.specs.{declared.nodes.Node.Node, declared.nodes.NodeKind.NodeKind, Kinds.{called_name, defined_slot, stored_slot, written_field}}
 use Rattle.pc_base.specs.Lists.{Text}
 use Rattle.pc_rules.specs.Parts.{last_child}
 use Rattle.pc_explain_words.specs.Scene.{SceneData, child, noted_type}
@@ -21,10 +21,16 @@ branch_step s None b = None
 branch_step s (Some a) None = None
 branch_step s (Some a) (Some b) = if is_none (noted_type s a) then Some (step.FirstBranch a) else (if is_none (noted_type s b) then Some (step.SecondBranch b) else None)
 
+abbrev pub is_seq_node : NodeKind → Bool
+is_seq_node node.Seq = true
+is_seq_node k = false
+
+abbrev pub is_if_node : NodeKind → Bool
+is_if_node node.If = true
+is_if_node k = false
+
 abbrev pub step_by : SceneData → Node → NodeKind → Option Step
-step_by s x node.Seq = item_step (last_child x.children)
-step_by s x node.If = branch_step s (child x 1) (child x 2)
-step_by s x k = None
+step_by s x k = if is_seq_node k then item_step (last_child x.children) else (if is_if_node k then branch_step s (child x 1) (child x 2) else None)
 
 abbrev pub untyped_step : SceneData → Option Node → Option Step
 untyped_step s None = None
@@ -42,18 +48,30 @@ step_to (step.SecondBranch c) = c
 
 -- ---- the reason
 
-abbrev pub reason_by : StopData → NodeKind → Text
-reason_by st (node.Define k) = said st DEFINED.now []
-reason_by st (node.Assign k) = said st ASSIGNED.now (fill.Slot k ∷ [])
-reason_by st (node.SetField name) = said st WRITTEN.now (fill.Name name ∷ [])
-reason_by st (node.Call name) = said st LENT.now (fill.Name name ∷ fill.Result ∷ [])
-reason_by st node.If = said st BRANCHES.now (fill.PartType 1 ∷ fill.PartType 2 ∷ [])
-reason_by st k = []
+-- Of a definition, or else of an assignment.
+abbrev pub stored_reason : StopData → (defined stored : Option ℕ) → Text
+stored_reason st (Some k) slot = said st DEFINED.now []
+stored_reason st None (Some k) = said st ASSIGNED.now (fill.Slot k ∷ [])
+stored_reason st None None = []
+
+-- Of a call, or else of those.
+abbrev pub called_reason : StopData → (called : Option ℕ) → Text
+called_reason st (Some name) = said st LENT.now (fill.Name name ∷ fill.Result ∷ [])
+called_reason st None = stored_reason st (defined_slot st.at.kind) (stored_slot st.at.kind)
+
+-- Of the write of a field, or else of those.
+abbrev pub written_reason : StopData → (written : Option ℕ) → Text
+written_reason st (Some name) = said st WRITTEN.now (fill.Name name ∷ [])
+written_reason st None = called_reason st (called_name st.at.kind)
+
+abbrev pub reason_of_stop : StopData → Text
+reason_of_stop st =
+    if is_if_node st.at.kind then said st BRANCHES.now (fill.PartType 1 ∷ fill.PartType 2 ∷ []) else written_reason st (written_field st.at.kind)
 
 -- The reason of a node that makes no step, as a node of its own.
 abbrev pub own_reason_of : SceneData → ℕ → Option Node → Text
 own_reason_of s n None = []
-own_reason_of s n (Some x) = reason_by (stop_without_masks s n x) x.kind
+own_reason_of s n (Some x) = reason_of_stop (stop_without_masks s n x)
 
 abbrev pub own_reason : SceneData → ℕ → Text
 own_reason s n = own_reason_of s n (slice_get s.core.nodes n)

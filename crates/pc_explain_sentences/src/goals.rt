@@ -120,35 +120,29 @@ fn is_sent(method: Option<&Method>) -> bool
     }
 }
 
+fn is_spawn(kind: &NodeKind) -> bool
+    ensures { result ≡ spec.is_spawn_node kind.now }
+{
+    matches!(kind, NodeKind::Spawn(_))
+}
+
+fn is_call(kind: &NodeKind) -> bool
+    ensures { result ≡ spec.is_call_node kind.now }
+{
+    matches!(kind, NodeKind::Call(_))
+}
+
 // Whether the node sends its arguments.
 fn sends(stop: &Stop) -> bool
     ensures { result ≡ spec.sends_arguments stop.now }
 {
-    match &stop.node().kind {
-        NodeKind::Spawn(_) => true,
-        NodeKind::Call(_) => is_sent(stop.method()),
-        NodeKind::Number(_)
-        | NodeKind::Truth(_)
-        | NodeKind::Text(_)
-        | NodeKind::Prim(_)
-        | NodeKind::This
-        | NodeKind::Local(_)
-        | NodeKind::Consume(_)
-        | NodeKind::Field(_)
-        | NodeKind::SetField(_)
-        | NodeKind::Define(_)
-        | NodeKind::Assign(_)
-        | NodeKind::New(_)
-        | NodeKind::Binary(_)
-        | NodeKind::Not
-        | NodeKind::And
-        | NodeKind::Or
-        | NodeKind::Same(_)
-        | NodeKind::Seq
-        | NodeKind::If
-        | NodeKind::While
-        | NodeKind::Recover(_)
-        | NodeKind::Body => false,
+    let kind = &stop.node().kind;
+    if is_spawn(kind) {
+        true
+    } else if is_call(kind) {
+        is_sent(stop.method())
+    } else {
+        false
     }
 }
 

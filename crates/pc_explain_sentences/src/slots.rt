@@ -13,31 +13,9 @@ use pc_masks::Mask;
 fn consumes_as(slot: u32, kind: &NodeKind) -> bool
     ensures { result ≡ spec.consumes_as slot kind.now }
 {
-    match kind {
-        NodeKind::Consume(consumed) => *consumed == slot,
-        NodeKind::Number(_)
-        | NodeKind::Truth(_)
-        | NodeKind::Text(_)
-        | NodeKind::Prim(_)
-        | NodeKind::This
-        | NodeKind::Local(_)
-        | NodeKind::Field(_)
-        | NodeKind::SetField(_)
-        | NodeKind::Define(_)
-        | NodeKind::Assign(_)
-        | NodeKind::New(_)
-        | NodeKind::Spawn(_)
-        | NodeKind::Call(_)
-        | NodeKind::Binary(_)
-        | NodeKind::Not
-        | NodeKind::And
-        | NodeKind::Or
-        | NodeKind::Same(_)
-        | NodeKind::Seq
-        | NodeKind::If
-        | NodeKind::While
-        | NodeKind::Recover(_)
-        | NodeKind::Body => false,
+    match kind.consumed_slot() {
+        Some(consumed) => consumed == slot,
+        None => false,
     }
 }
 

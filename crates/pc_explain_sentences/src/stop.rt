@@ -146,37 +146,22 @@ impl<'a> Stop<'a> {
         self.scene.core().method_at(self.node.method)
     }
 
+    // The method that a call calls.
+    fn called(&self) -> Option<&'a Method>
+        ensures { option_copied result ≡ spec.method_of_call self.now }
+    {
+        let name = self.node.kind.called_name()?;
+        callee(self.scene, self.node, name)
+    }
+
     /// The method whose parameters the arguments go to.
     #[tactic(auto, unfolding(crate::specs::Stop::node_method))]
     pub fn method(&self) -> Option<&'a Method>
         ensures { option_copied result ≡ spec.node_method self.now }
     {
-        match &self.node.kind {
-            NodeKind::New(method) | NodeKind::Spawn(method) => {
-                self.scene.core().method_at(*method)
-            }
-            NodeKind::Call(name) => callee(self.scene, self.node, *name),
-            NodeKind::Number(_)
-            | NodeKind::Truth(_)
-            | NodeKind::Text(_)
-            | NodeKind::Prim(_)
-            | NodeKind::This
-            | NodeKind::Local(_)
-            | NodeKind::Consume(_)
-            | NodeKind::Field(_)
-            | NodeKind::SetField(_)
-            | NodeKind::Define(_)
-            | NodeKind::Assign(_)
-            | NodeKind::Binary(_)
-            | NodeKind::Not
-            | NodeKind::And
-            | NodeKind::Or
-            | NodeKind::Same(_)
-            | NodeKind::Seq
-            | NodeKind::If
-            | NodeKind::While
-            | NodeKind::Recover(_)
-            | NodeKind::Body => None,
+        match self.node.kind.constructor() {
+            Some(method) => self.scene.core().method_at(method),
+            None => self.called(),
         }
     }
 
@@ -224,30 +209,7 @@ impl<'a> Stop<'a> {
 fn name_by(kind: &NodeKind) -> u32
     ensures { result ≡ spec.name_by kind.now }
 {
-    match kind {
-        NodeKind::Field(name) | NodeKind::SetField(name) | NodeKind::Call(name) => *name,
-        NodeKind::Number(_)
-        | NodeKind::Truth(_)
-        | NodeKind::Text(_)
-        | NodeKind::Prim(_)
-        | NodeKind::This
-        | NodeKind::Local(_)
-        | NodeKind::Consume(_)
-        | NodeKind::Define(_)
-        | NodeKind::Assign(_)
-        | NodeKind::New(_)
-        | NodeKind::Spawn(_)
-        | NodeKind::Binary(_)
-        | NodeKind::Not
-        | NodeKind::And
-        | NodeKind::Or
-        | NodeKind::Same(_)
-        | NodeKind::Seq
-        | NodeKind::If
-        | NodeKind::While
-        | NodeKind::Recover(_)
-        | NodeKind::Body => 0,
-    }
+    kind.member_name().unwrap_or(0)
 }
 
 // The name of the field with this index of an entity.

@@ -51,34 +51,27 @@ fn branch_step(scene: &Scene, first: Option<u32>, second: Option<u32>) -> Option
     }
 }
 
+fn is_seq(kind: &NodeKind) -> bool
+    ensures { result ≡ spec.is_seq_node kind.now }
+{
+    matches!(kind, NodeKind::Seq)
+}
+
+fn is_if(kind: &NodeKind) -> bool
+    ensures { result ≡ spec.is_if_node kind.now }
+{
+    matches!(kind, NodeKind::If)
+}
+
 fn step_by(scene: &Scene, node: &Node) -> Option<Step>
     ensures { result ≡ spec.step_by scene.now node.now node.now.kind }
 {
-    match &node.kind {
-        NodeKind::Seq => item_step(last_child(node.children.as_slice())),
-        NodeKind::If => branch_step(scene, child(node, 1), child(node, 2)),
-        NodeKind::Number(_)
-        | NodeKind::Truth(_)
-        | NodeKind::Text(_)
-        | NodeKind::Prim(_)
-        | NodeKind::This
-        | NodeKind::Local(_)
-        | NodeKind::Consume(_)
-        | NodeKind::Field(_)
-        | NodeKind::SetField(_)
-        | NodeKind::Define(_)
-        | NodeKind::Assign(_)
-        | NodeKind::New(_)
-        | NodeKind::Spawn(_)
-        | NodeKind::Call(_)
-        | NodeKind::Binary(_)
-        | NodeKind::Not
-        | NodeKind::And
-        | NodeKind::Or
-        | NodeKind::Same(_)
-        | NodeKind::While
-        | NodeKind::Recover(_)
-        | NodeKind::Body => None,
+    if is_seq(&node.kind) {
+        item_step(last_child(node.children.as_slice()))
+    } else if is_if(&node.kind) {
+        branch_step(scene, child(node, 1), child(node, 2))
+    } else {
+        None
     }
 }
 
@@ -110,45 +103,64 @@ fn step_to(step: Step) -> u32
     }
 }
 
-// Appends the reason for a node that makes no step.
-fn push_reason_by(alloc: Global, out: &mut Vec<u8>, stop: &Stop) -> Result<(), AllocError>
-    ensures { OnOk result (out.new.items ≡ out.old.items ++ spec.reason_by stop.now stop.now.at.kind) }
+// Appends the reason of a definition, or else of an assignment.
+fn push_stored_reason(
+    alloc: Global,
+    out: &mut Vec<u8>,
+    stop: &Stop,
+    defined: Option<u32>,
+    stored: Option<u32>,
+) -> Result<(), AllocError>
+    ensures { OnOk result (out.new.items ≡ out.old.items ++ spec.stored_reason stop.now defined stored) }
 {
-    match &stop.node().kind {
-        NodeKind::Define(_) => push_filled(alloc, out, stop, DEFINED, &[]),
-        NodeKind::Assign(slot) => push_filled(alloc, out, stop, ASSIGNED, &[Fill::Slot(*slot)]),
-        NodeKind::SetField(name) => push_filled(alloc, out, stop, WRITTEN, &[Fill::Name(*name)]),
-        NodeKind::Call(name) => {
-            push_filled(alloc, out, stop, LENT, &[Fill::Name(*name), Fill::Result])
-        }
-        NodeKind::If => {
-            push_filled(
-                alloc,
-                out,
-                stop,
-                BRANCHES,
-                &[Fill::PartType(1), Fill::PartType(2)],
-            )
-        }
-        NodeKind::Number(_)
-        | NodeKind::Truth(_)
-        | NodeKind::Text(_)
-        | NodeKind::Prim(_)
-        | NodeKind::This
-        | NodeKind::Local(_)
-        | NodeKind::Consume(_)
-        | NodeKind::Field(_)
-        | NodeKind::New(_)
-        | NodeKind::Spawn(_)
-        | NodeKind::Binary(_)
-        | NodeKind::Not
-        | NodeKind::And
-        | NodeKind::Or
-        | NodeKind::Same(_)
-        | NodeKind::Seq
-        | NodeKind::While
-        | NodeKind::Recover(_)
-        | NodeKind::Body => Ok(()),
+    match (defined, stored) {
+        (Some(_), _) => push_filled(alloc, out, stop, DEFINED, &[]),
+        (None, Some(slot)) => push_filled(alloc, out, stop, ASSIGNED, &[Fill::Slot(slot)]),
+        (None, None) => Ok(()),
+    }
+}
+
+// Appends the reason of a call, or else of those.
+fn push_called_reason(
+    alloc: Global,
+    out: &mut Vec<u8>,
+    stop: &Stop,
+    called: Option<u32>,
+) -> Result<(), AllocError>
+    ensures { OnOk result (out.new.items ≡ out.old.items ++ spec.called_reason stop.now called) }
+{
+    let kind = &stop.node().kind;
+    match called {
+        Some(name) => push_filled(alloc, out, stop, LENT, &[Fill::Name(name), Fill::Result]),
+        None => push_stored_reason(alloc, out, stop, kind.defined_slot(), kind.stored_slot()),
+    }
+}
+
+// Appends the reason of the write of a field, or else of those.
+fn push_written_reason(
+    alloc: Global,
+    out: &mut Vec<u8>,
+    stop: &Stop,
+    written: Option<u32>,
+) -> Result<(), AllocError>
+    ensures { OnOk result (out.new.items ≡ out.old.items ++ spec.written_reason stop.now written) }
+{
+    match written {
+        Some(name) => push_filled(alloc, out, stop, WRITTEN, &[Fill::Name(name)]),
+        None => push_called_reason(alloc, out, stop, stop.node().kind.called_name()),
+    }
+}
+
+// Appends the reason for a node that makes no step.
+fn push_reason_of(alloc: Global, out: &mut Vec<u8>, stop: &Stop) -> Result<(), AllocError>
+    ensures { OnOk result (out.new.items ≡ out.old.items ++ spec.reason_of_stop stop.now) }
+{
+    let kind = &stop.node().kind;
+    if is_if(kind) {
+        let branches = [Fill::PartType(1), Fill::PartType(2)];
+        push_filled(alloc, out, stop, BRANCHES, &branches)
+    } else {
+        push_written_reason(alloc, out, stop, kind.written_field())
     }
 }
 
@@ -162,7 +174,7 @@ fn push_own_reason(
     ensures { OnOk result (out.new.items ≡ out.old.items ++ spec.own_reason scene.now node) }
 {
     match scene.core().node_at(node) {
-        Some(found) => push_reason_by(alloc, out, &Stop::without_masks(scene, node, found)),
+        Some(found) => push_reason_of(alloc, out, &Stop::without_masks(scene, node, found)),
         None => Ok(()),
     }
 }
