@@ -5,11 +5,13 @@ use Rattle.pc_base.proofs.{Gets.get_within, Options.bind_is}
 use Rattle.pc_heap.specs.{Objects.{ObjectMap, Object}, declared.value.Address.Address, declared.value.Value.Value, declared.value.Value.TheVariants.{Num, Truth, Text, Prim, At}}
 use Rattle.pc_tree.specs.declared.kinds.Op.{Op}
 use Rattle.pc_tree.specs.declared.kinds.Op.TheVariants as op
-use Rattle.pc_core.specs.{declared.declarations.Method.Method, declared.declarations.MethodKind.MethodKind, declared.nodes.Node.Node, declared.nodes.NodeKind.NodeKind, CoreData.{CoreData, method_named}, Nodes.HasArity, Formed.Formed}
+use Rattle.pc_core.specs.{declared.declarations.Method.Method, declared.declarations.MethodKind.MethodKind, declared.kinds.Connective.Connective, declared.kinds.Operation.Operation, declared.nodes.Node.Node, declared.nodes.NodeKind.NodeKind, CoreData.{CoreData, method_named}, Kinds.{read_field, written_field, stored_slot, operation, connective}, Nodes.HasArity, Formed.Formed}
 use Rattle.pc_core.specs.declared.declarations.MethodKind.TheVariants as method
+use Rattle.pc_core.specs.declared.kinds.Connective.TheVariants as joins
+use Rattle.pc_core.specs.declared.kinds.Operation.TheVariants as applies
 use Rattle.pc_core.specs.declared.nodes.NodeKind.TheVariants as node
 use Rattle.pc_base.specs.{Lists.Each, Limits.text_limit}
-use Rattle.pc_semantics.specs.{declared.frames.Frame.Frame, declared.frames.Task.Task, declared.mailbox.Message.Message, Configurations.{own_address, blank_object, Around, Move, Stuck, Overflows, Goes, Spawns, Sends, Leaves, with_stack, pushed, none, popped}, Children.evaluations, Parts.{push_slot, take_slot, evaluate_node, get_value, get_field, get_of, get_from, put_value, put_field, put_of, put_into, begin_new, make_of, spawn_of, enter, send, push_text, invoke_found, invoke_method, invoke_on, leave_object, return_task, push_or_lack, negated, compared, at_node}, Evaluation.{item_tasks, first_then, evaluate, truth, apply_task, right_side, test_and, test_or, test_task, branch, loop_turn, of_numbers, of_truths, of_texts, binary}, Calls.{get_task, put_task, store, store_task, counted, is_string, text_of, make_task, spawn_task, invoke_kind, invoke_task, leave}, Step.task_move}
+use Rattle.pc_semantics.specs.{declared.frames.Frame.Frame, declared.frames.Task.Task, declared.mailbox.Message.Message, Configurations.{own_address, blank_object, Around, Move, Stuck, Overflows, Goes, Spawns, Sends, Leaves, given, with_stack, pushed, none, popped}, Children.evaluations, Parts.{push_slot, take_slot, evaluate_node, get_value, get_field, get_of, get_from, put_value, put_field, put_of, put_into, begin_new, make_of, spawn_of, enter, send, push_text, invoke_found, invoke_method, invoke_on, leave_object, return_task, push_or_lack, negated, compared, at_node}, Evaluation.{Way, Gives, Reads, Takes, AllThen, FirstThen, Items, way_of, item_tasks, first_then, by_way, truth, applied, apply_task, right_side, decided, test_task, branch, loop_turn, of_numbers, of_truths, of_texts, binary}, Calls.{get_task, put_task, store, store_task, counted, is_string, text_of, make_task, spawn_task, invoke_kind, invoke_task, leave}, Step.task_move}
 use Rattle.pc_semantics.specs.declared.frames.Task.TheVariants as task
 use Rattle.pc_semantics.specs.declared.outcome.Lack.TheVariants as lack
 use Rattle.pc_sends.specs.{Held.{receiver_child, call_in, IsNoted}, Tables.{is_called, last_child_of, noted_at, Aims, UsesMethod, IsSent, Posts}}
@@ -47,31 +49,33 @@ module _ (core : CoreData) (ents : List (Option ℕ)) (formed : Formed core) (m 
   first_in f [] ts k h l = tt
   first_in f (c ∷ cs) ts k h l = (k.0, (h 0 c refl, tasks_in core m ts f.tasks l k.1))
 
-  evaluate_in : (f : Frame) (n : ℕ) (cs : List ℕ) (x : NodeKind) → Of f → Each (λ i c. NodeIn core m c) cs → NodeIn core m n → In (evaluate f n cs x)
-  evaluate_in f n cs (node.Number v) k h l = k
-  evaluate_in f n cs (node.Truth v) k h l = k
-  evaluate_in f n cs (node.Text v) k h l = k
-  evaluate_in f n cs (node.Prim e) k h l = k
-  evaluate_in f n cs node.This k h l = push_slot_in f (slice_get f.slots 0) k
-  evaluate_in f n cs (node.Local s) k h l = push_slot_in f (slice_get f.slots s) k
-  evaluate_in f n cs (node.Consume s) k h l = take_slot_in f s (slice_get f.slots s) k
-  evaluate_in f n cs (node.Field name) k h l = (k.0, all_in f cs (task.Get n) k h l)
-  evaluate_in f n cs (node.SetField name) k h l = (k.0, all_in f cs (task.Put n) k h l)
-  evaluate_in f n cs (node.Define s) k h l = (k.0, all_in f cs (task.Store n) k h l)
-  evaluate_in f n cs (node.Assign s) k h l = (k.0, all_in f cs (task.Store n) k h l)
-  evaluate_in f n cs (node.New t) k h l = (k.0, all_in f cs (task.Make n) k h l)
-  evaluate_in f n cs (node.Spawn t) k h l = (k.0, all_in f cs (task.Spawn n) k h l)
-  evaluate_in f n cs (node.Call name) k h l = (k.0, all_in f cs (task.Invoke n) k h l)
-  evaluate_in f n cs (node.Binary o) k h l = (k.0, all_in f cs (task.Apply n) k h l)
-  evaluate_in f n cs node.Not k h l = (k.0, all_in f cs (task.Apply n) k h l)
-  evaluate_in f n cs (node.Same b) k h l = (k.0, all_in f cs (task.Apply n) k h l)
-  evaluate_in f n cs node.And k h l = first_in f cs (task.Test n ∷ []) k h (l, tt)
-  evaluate_in f n cs node.Or k h l = first_in f cs (task.Test n ∷ []) k h (l, tt)
-  evaluate_in f n cs node.If k h l = first_in f cs (task.Branch n ∷ []) k h (l, tt)
-  evaluate_in f n cs node.While k h l = first_in f cs (task.Loop n ∷ []) k h (l, tt)
-  evaluate_in f n cs node.Seq k h l = (k.0, tasks_in core m (item_tasks cs) f.tasks (items_in core m cs h) k.1)
-  evaluate_in f n cs (node.Recover c) k h l = first_in f cs [] k h tt
-  evaluate_in f n cs node.Body k h l = first_in f cs (task.Return ∷ []) k h (tt, tt)
+  -- The tasks of a way are tasks of node n.
+  abbrev WayIn : ℕ → Way → Type 0
+  WayIn n (AllThen t) = TaskIn core m t
+  WayIn n (FirstThen ts) = TasksIn core m ts
+  WayIn n w = NodeIn core m n
+
+  own_way : (n : ℕ) (x : NodeKind) → NodeIn core m n → WayIn n (way_of n x)
+  own_way n node.And l = (l, tt)
+  own_way n node.Or l = (l, tt)
+  own_way n node.If l = (l, tt)
+  own_way n node.While l = (l, tt)
+  own_way n (node.Recover c) l = tt
+  own_way n node.Body l = (tt, tt)
+  own_way n x l = l
+
+  way_in : (f : Frame) (n : ℕ) (cs : List ℕ) (w : Way) → Of f → Each (λ i c. NodeIn core m c) cs → WayIn n w → In (by_way f cs w)
+  way_in f n cs (Gives v) k h l = k
+  way_in f n cs (Reads s) k h l = push_slot_in f (slice_get f.slots s) k
+  way_in f n cs (Takes s) k h l = take_slot_in f s (slice_get f.slots s) k
+  way_in f n cs (AllThen t) k h l = (k.0, all_in f cs t k h l)
+  way_in f n cs (FirstThen ts) k h l = first_in f cs ts k h l
+  way_in f n cs Items k h l = (k.0, tasks_in core m (item_tasks cs) f.tasks (items_in core m cs h) k.1)
+
+  -- The step goes on with a value that is there.
+  given_in : {A : Type 0} (o : Option A) (next : A → Move) → ((x : A) → In (next x)) → In (given lack.Value o next)
+  given_in None next h = tt
+  given_in (Some x) next h = h x
 
   -- ---- fields and slots
 
@@ -115,18 +119,14 @@ module _ (core : CoreData) (ents : List (Option ℕ)) (formed : Formed core) (m 
   put_into_in around name (Prim n) v f k = tt
 
   get_task_in : (around : Around) (f : Frame) (x : NodeKind) → Of f → In (get_task core around f x)
-  get_task_in around f (node.Field name) k = top_in core ents m f f.stack (get_from core around name) k (get_from_in around name)
-  get_task_in around f x k = tt
+  get_task_in around f x k = given_in (read_field x) _ (λ name. top_in core ents m f f.stack (get_from core around name) k (get_from_in around name))
 
   put_task_in : (around : Around) (f : Frame) (x : NodeKind) → Of f → In (put_task core around f x)
-  put_task_in around f (node.SetField name) k =
-      top_in core ents m f f.stack _ k (λ o g l. top_in core ents m g g.stack (put_into core around name o) l (put_into_in around name o))
-  put_task_in around f x k = tt
+  put_task_in around f x k =
+      given_in (written_field x) _ (λ name. top_in core ents m f f.stack _ k (λ o g l. top_in core ents m g g.stack (put_into core around name o) l (put_into_in around name o)))
 
   store_task_in : (f : Frame) (x : NodeKind) → Of f → In (store_task f x)
-  store_task_in f (node.Define s) k = top_in core ents m f f.stack (store s) k (λ v g l. l)
-  store_task_in f (node.Assign s) k = top_in core ents m f f.stack (store s) k (λ v g l. l)
-  store_task_in f x k = tt
+  store_task_in f x k = given_in (stored_slot x) _ (λ s. top_in core ents m f f.stack (store s) k (λ v g l. l))
 
   -- ---- operators
 
@@ -153,11 +153,13 @@ module _ (core : CoreData) (ents : List (Option ℕ)) (formed : Formed core) (m 
   negated_in f (Truth b) k = k
   negated_in f v k = tt
 
+  applied_in : (f : Frame) (o : Operation) → Of f → In (applied f o)
+  applied_in f (applies.Binary o) k = top_in core ents m f f.stack _ k (λ w g l. top_in core ents m g g.stack _ l (λ v h n. binary_in h o v w n))
+  applied_in f (applies.Same b) k = top_in core ents m f f.stack _ k (λ w g l. top_in core ents m g g.stack (λ v h. compared h b v w) l (λ v h n. n))
+  applied_in f applies.Not k = top_in core ents m f f.stack _ k (λ v g l. negated_in g v l)
+
   apply_task_in : (f : Frame) (x : NodeKind) → Of f → In (apply_task f x)
-  apply_task_in f (node.Binary o) k = top_in core ents m f f.stack _ k (λ w g l. top_in core ents m g g.stack _ l (λ v h n. binary_in h o v w n))
-  apply_task_in f (node.Same b) k = top_in core ents m f f.stack _ k (λ w g l. top_in core ents m g g.stack (λ v h. compared h b v w) l (λ v h n. n))
-  apply_task_in f node.Not k = top_in core ents m f f.stack _ k (λ v g l. negated_in g v l)
-  apply_task_in f x k = tt
+  apply_task_in f x k = given_in (operation x) _ (λ o. applied_in f o k)
 
   -- ---- one way or another
 
@@ -174,18 +176,14 @@ module _ (core : CoreData) (ents : List (Option ℕ)) (formed : Formed core) (m 
   right_in (a ∷ []) f k h = tt
   right_in (a ∷ b ∷ c ∷ cs) f k h = tt
 
-  test_and_in : (cs : List ℕ) → Each (λ i c. NodeIn core m c) cs → (b : Bool) (f : Frame) → Of f → In (test_and cs b f)
-  test_and_in cs h false f k = k
-  test_and_in cs h true f k = right_in cs f k h
-
-  test_or_in : (cs : List ℕ) → Each (λ i c. NodeIn core m c) cs → (b : Bool) (f : Frame) → Of f → In (test_or cs b f)
-  test_or_in cs h true f k = k
-  test_or_in cs h false f k = right_in cs f k h
+  decided_in : (o : Connective) (cs : List ℕ) → Each (λ i c. NodeIn core m c) cs → (b : Bool) (f : Frame) → Of f → In (decided o cs b f)
+  decided_in joins.And cs h false f k = k
+  decided_in joins.And cs h true f k = right_in cs f k h
+  decided_in joins.Or cs h true f k = k
+  decided_in joins.Or cs h false f k = right_in cs f k h
 
   test_task_in : (f : Frame) (cs : List ℕ) (x : NodeKind) → Of f → Each (λ i c. NodeIn core m c) cs → In (test_task f cs x)
-  test_task_in f cs node.And k h = top_in core ents m f f.stack (truth (test_and cs)) k (λ v g l. truth_in g v (test_and cs) l (test_and_in cs h))
-  test_task_in f cs node.Or k h = top_in core ents m f f.stack (truth (test_or cs)) k (λ v g l. truth_in g v (test_or cs) l (test_or_in cs h))
-  test_task_in f cs x k h = tt
+  test_task_in f cs x k h = given_in (connective x) _ (λ o. top_in core ents m f f.stack (truth (decided o cs)) k (λ v g l. truth_in g v (decided o cs) l (decided_in o cs h)))
 
   branch_in : (cs : List ℕ) → Each (λ i c. NodeIn core m c) cs → (b : Bool) (f : Frame) → Of f → In (branch cs b f)
   branch_in (c ∷ a ∷ b ∷ []) h true f k = (k.0, (h 1 a refl, k.1))
@@ -333,7 +331,7 @@ module _ (core : CoreData) (ents : List (Option ℕ)) (formed : Formed core) (m 
 
       eval_node : (o : Option Node) → slice_get core.nodes n ≡ o → In (evaluate_node f n o)
       eval_node None at = tt
-      eval_node (Some x) at = evaluate_in f n x.children x.kind k (own_children x at) here
+      eval_node (Some x) at = way_in f n x.children (way_of n x.kind) k (own_children x at) (own_way n x.kind here)
 
       at_node_in : (o : Option Node) (next : Node → Move) → slice_get core.nodes n ≡ o → ((x : Node) → slice_get core.nodes n ≡ Some x → In (next x)) → In (at_node o next)
       at_node_in None next at h = tt

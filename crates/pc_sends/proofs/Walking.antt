@@ -1,7 +1,7 @@
 -- What a walk over methods finds, step by step.
 use Rattle.std.specs.Prelude.{◌≡◌, ◌⊎◌, ◌↔◌, ℕ, ◌+◌, ◌-◌, Bool, List, [], Option, Some, None, slice_get, if◌then◌else◌}
 use Rattle.std.proofs.{Common.{inl, inr, ap, sym, subst, ◌∙◌, arith}, lemmas.Option.{same_Some, none-some}}
-use Rattle.pc_core.specs.{declared.declarations.Method.Method, declared.nodes.Node.Node, declared.nodes.NodeKind.NodeKind, CoreData.{CoreData, method_named, node_end}, Formed.Formed, Further.own_nodes}
+use Rattle.pc_core.specs.{declared.declarations.Method.Method, declared.nodes.Node.Node, declared.nodes.NodeKind.NodeKind, CoreData.{CoreData, method_named, node_end}, Kinds.{constructor, called_name}, Formed.Formed, Further.own_nodes}
 use Rattle.pc_core.specs.declared.nodes.NodeKind.TheVariants as nodes
 use Rattle.pc_base.specs.Lists.{◌>>=◌, Has}
 use Rattle.pc_base.proofs.{Options.{bind_some, bind_is, kept}, Gets.{get_within, get_range, range_get}}
@@ -100,16 +100,24 @@ no_uses core ents m a formed is =
 -- ---- nodes
 
 -- A node that makes an object or an actor.
-made_is : (core : CoreData) (ents : List (Option ℕ)) (k : NodeKind) (cs : List ℕ) (n : ℕ) → (k ≡ nodes.New n) ⊎ (k ≡ nodes.Spawn n) → (t : ℕ) → (Aims core ents k cs t) ↔ (n ≡ t)
-made_is core ents k cs n (inl is) t = subst (λ (j : NodeKind). (Aims core ents j cs t) ↔ (n ≡ t)) (sym is) (λ e. e, λ e. e)
-made_is core ents k cs n (inr is) t = subst (λ (j : NodeKind). (Aims core ents j cs t) ↔ (n ≡ t)) (sym is) (λ e. e, λ e. e)
+made_is : (core : CoreData) (ents : List (Option ℕ)) (k : NodeKind) (cs : List ℕ) (n : ℕ) → constructor k ≡ Some n → (t : ℕ) → (Aims core ents k cs t) ↔ (n ≡ t)
+made_is core ents (nodes.New m) cs n is t = (λ e. sym (same_Some m n is) ∙ e, λ e. same_Some m n is ∙ e)
+made_is core ents (nodes.Spawn m) cs n is t = (λ e. sym (same_Some m n is) ∙ e, λ e. same_Some m n is ∙ e)
+made_is core ents k cs n is t = absurd (none-some n is)
 
-pub aims_made : (core : CoreData) (ents : List (Option ℕ)) (k : NodeKind) (cs : List ℕ) (n : ℕ) (a b : List ℕ) → (k ≡ nodes.New n) ⊎ (k ≡ nodes.Spawn n) → Grown (λ t. n ≡ t) a b → Grown (Aims core ents k cs) a b
+pub aims_made : (core : CoreData) (ents : List (Option ℕ)) (k : NodeKind) (cs : List ℕ) (n : ℕ) (a b : List ℕ) → constructor k ≡ Some n → Grown (λ t. n ≡ t) a b → Grown (Aims core ents k cs) a b
 aims_made core ents k cs n a b is g = grown_same (λ t. n ≡ t) (Aims core ents k cs) a b (λ t e. (made_is core ents k cs n is t).1 e) (λ t e. (made_is core ents k cs n is t).0 e) g
 
+-- A node that calls.
+call_is : (core : CoreData) (ents : List (Option ℕ)) (k : NodeKind) (name : ℕ) (cs : List ℕ) (t : ℕ) → called_name k ≡ Some name → (Aims core ents k cs t) ↔ ((e : ℕ) × (noted_receiver ents cs ≡ Some e) × MayCall core name e t)
+call_is core ents (nodes.Call m) name cs t is =
+    subst (λ (j : ℕ). (Aims core ents (nodes.Call m) cs t) ↔ ((e : ℕ) × (noted_receiver ents cs ≡ Some e) × MayCall core j e t)) (same_Some m name is) (λ q. q, λ q. q)
+call_is core ents k name cs t is = absurd (none-some name is)
+
 -- What a call calls, if its receiver's entity is noted.
-pub aims_call : (core : CoreData) (ents : List (Option ℕ)) (k : NodeKind) (name : ℕ) (cs : List ℕ) (e : ℕ) (a b : List ℕ) → k ≡ nodes.Call name → noted_receiver ents cs ≡ Some e → Grown (MayCall core name e) a b → Grown (Aims core ents k cs) a b
+pub aims_call : (core : CoreData) (ents : List (Option ℕ)) (k : NodeKind) (name : ℕ) (cs : List ℕ) (e : ℕ) (a b : List ℕ) → called_name k ≡ Some name → noted_receiver ents cs ≡ Some e → Grown (MayCall core name e) a b → Grown (Aims core ents k cs) a b
 aims_call core ents k name cs e a b call is g =
-    subst (λ (j : NodeKind). Grown (Aims core ents j cs) a b) (sym call)
-    (grown_same (MayCall core name e) (Aims core ents (nodes.Call name) cs) a b (λ t m. (e, is, m))
-    (λ t q. subst (λ (d : ℕ). MayCall core name d t) (same_Some q.0 e (sym q.1 ∙ is)) q.2) g)
+    grown_same (MayCall core name e) (Aims core ents k cs) a b (λ t m. (call_is core ents k name cs t call).1 (e, is, m))
+    (λ t q.
+    let r = (call_is core ents k name cs t call).0 q in
+    subst (λ (d : ℕ). MayCall core name d t) (same_Some r.0 e (sym r.1 ∙ is)) r.2) g

@@ -12,7 +12,7 @@ ghost use Rattle.pc_sends.specs.Found as finding;
 use crate::calls::Calls;
 use crate::found::Found;
 use pc_base::List;
-use pc_core::{Core, Method, MethodKind, Node, NodeKind};
+use pc_core::{Core, Method, MethodKind, Node};
 use std::alloc::{AllocError, Global};
 
 /// A core with the entities that are noted of it.
@@ -138,34 +138,15 @@ fn see_node(noted: &Noted, node: &Node, walk: &mut Walk) -> Result<(), AllocErro
     ensures grown { OnOk result (Grown (spec.Aims noted.now.core.now noted.now.entities.now node.now.kind node.now.children) walk.old.found walk.new.found) }
     ensures known { OnOk result (finding.CallsAreFound noted.now.core.now walk.new.calls walk.new.found) }
 {
-    match node.kind {
-        NodeKind::New(number) => walk.found.add(number),
-        NodeKind::Spawn(number) => walk.found.add(number),
-        NodeKind::Call(name) => match noted_receiver(noted.entities, node.children.as_slice()) {
-            Some(known) => see_call(noted, name, known, walk),
-            None => Ok(()),
-        },
-        NodeKind::Number(_)
-        | NodeKind::Truth(_)
-        | NodeKind::Text(_)
-        | NodeKind::Prim(_)
-        | NodeKind::This
-        | NodeKind::Local(_)
-        | NodeKind::Consume(_)
-        | NodeKind::Field(_)
-        | NodeKind::SetField(_)
-        | NodeKind::Define(_)
-        | NodeKind::Assign(_)
-        | NodeKind::Binary(_)
-        | NodeKind::Not
-        | NodeKind::And
-        | NodeKind::Or
-        | NodeKind::Same(_)
-        | NodeKind::Seq
-        | NodeKind::If
-        | NodeKind::While
-        | NodeKind::Recover(_)
-        | NodeKind::Body => Ok(()),
+    if let Some(number) = node.kind.constructor() {
+        return walk.found.add(number);
+    }
+    let Some(name) = node.kind.called_name() else {
+        return Ok(());
+    };
+    match noted_receiver(noted.entities, node.children.as_slice()) {
+        Some(known) => see_call(noted, name, known, walk),
+        None => Ok(()),
     }
 }
 
