@@ -6,11 +6,14 @@ use borrow.Author.Tests.{ltb-true}
 use Rattle.pc_tree.specs.declared.kinds.Op.{Op}
 use Rattle.pc_tree.specs.declared.kinds.Op.TheVariants as op
 use Rattle.pc_heap.specs.{Objects.{next_address, Object}, declared.value.Address.Address, declared.value.Value.Value, declared.value.Value.TheVariants.{Num, Truth, Text, Prim, At}}
-use Rattle.pc_core.specs.{CoreData.{CoreData, field_named, method_named}, declared.declarations.Method.Method, declared.declarations.MethodKind.MethodKind, declared.nodes.Node.Node, declared.nodes.NodeKind.NodeKind}
+use Rattle.pc_core.specs.{CoreData.{CoreData, field_named, method_named}, declared.declarations.Method.Method, declared.declarations.MethodKind.MethodKind, declared.kinds.Connective.Connective, declared.kinds.Operation.Operation, declared.nodes.Node.Node, declared.nodes.NodeKind.NodeKind, Kinds.{read_field, written_field, stored_slot, called_name, operation, connective}}
+use Rattle.pc_core.specs.declared.kinds.Connective.TheVariants as joins
+use Rattle.pc_core.specs.declared.kinds.Operation.TheVariants as applies
 use Rattle.pc_core.specs.declared.declarations.MethodKind.TheVariants as method
 use Rattle.pc_core.specs.declared.nodes.NodeKind.TheVariants as node
-use Rattle.pc_semantics.specs.{declared.frames.Frame.Frame, declared.frames.Task.Task, Configurations.{Around, Move, Goes, Writes, Makes, Spawns, Sends, Leaves, pop, popped, value_entity, blank_object}, Parts.{with_top, with_popped, number_of_fields, begin_new, make_of, spawn_of, enter, send, push_text, invoke_found, invoke_method, invoke_on, leave_object, return_task, get_value, get_field, get_of, get_from, put_value, put_field, put_of, put_into, push_slot, take_slot, evaluate_node, push_or_lack, negated, compared, at_node}, Calls.{counted, make_task, spawn_task, invoke_kind, text_of, is_string, invoke_task, leave, get_task, put_task, store, store_task}, Evaluation.{truth, apply_task, right_side, test_and, test_or, test_task, branch, loop_turn, first_then, evaluate, of_numbers, of_truths, of_texts, binary}, Step.task_move}
+use Rattle.pc_semantics.specs.{declared.frames.Frame.Frame, declared.frames.Task.Task, Configurations.{Around, Move, Goes, Writes, Makes, Spawns, Sends, Leaves, given, pop, popped, value_entity, blank_object}, Parts.{with_top, with_popped, number_of_fields, begin_new, make_of, spawn_of, enter, send, push_text, invoke_found, invoke_method, invoke_on, leave_object, return_task, get_value, get_field, get_of, get_from, put_value, put_field, put_of, put_into, push_slot, take_slot, evaluate_node, push_or_lack, negated, compared}, Calls.{counted, make_task, spawn_task, invoke_kind, text_of, is_string, invoke_task, leave, get_task, put_task, store, store_task}, Evaluation.{Way, Reads, Takes, FirstThen, way_of, first_then, by_way, truth, applied, apply_task, right_side, decided, test_task, branch, loop_turn, of_numbers, of_truths, of_texts, binary}, Step.task_move}
 use Rattle.pc_semantics.specs.declared.frames.Task.TheVariants as task
+use Rattle.pc_semantics.specs.declared.outcome.Lack.TheVariants as lack
 use Rattle.pc_tasks.specs.{Fielded.HasFields, Inside.{first_move, relieved}}
 use Rattle.pc_machine.specs.{declared.plan.Plan.Plan, Plans.{move_of, ReachesActor}}
 use Rattle.pc_machine.specs.declared.plan.Plan.TheVariants as plan
@@ -38,6 +41,10 @@ module _ (core : CoreData) (around : Around) where
   if_true true m n h k = h refl
   if_true false m n h k = k
 
+  at : {A : Type 0} (o : Option A) (next : A → Move) → ((x : A) → Allowed core around (next x)) → Allowed core around (given lack.Value o next)
+  at None next h = tt
+  at (Some x) next h = h x
+
   count : (x : Method) (vs : List Value) (m : Move) → Allowed core around m → Allowed core around (counted x vs m)
   count x vs m h = if_true (nat_eq (length vs) (length x.params)) m _ (λ e. h) tt
 
@@ -57,21 +64,15 @@ module _ (core : CoreData) (around : Around) where
   first f [] ts = tt
   first f (c ∷ cs) ts = tt
 
-  kind : (f : Frame) (n : ℕ) (cs : List ℕ) (k : NodeKind) → Allowed core around (evaluate f n cs k)
-  kind f n cs node.This = slot f (slice_get f.slots 0)
-  kind f n cs (node.Local s) = slot f (slice_get f.slots s)
-  kind f n cs (node.Consume s) = taken f s (slice_get f.slots s)
-  kind f n cs node.And = first f cs _
-  kind f n cs node.Or = first f cs _
-  kind f n cs node.If = first f cs _
-  kind f n cs node.While = first f cs _
-  kind f n cs (node.Recover cap) = first f cs _
-  kind f n cs node.Body = first f cs _
-  kind f n cs k = tt
+  way : (f : Frame) (cs : List ℕ) (w : Way) → Allowed core around (by_way f cs w)
+  way f cs (Reads s) = slot f (slice_get f.slots s)
+  way f cs (Takes s) = taken f s (slice_get f.slots s)
+  way f cs (FirstThen ts) = first f cs ts
+  way f cs w = tt
 
   evaluated : (f : Frame) (n : ℕ) (o : Option Node) → Allowed core around (evaluate_node f n o)
   evaluated f n None = tt
-  evaluated f n (Some x) = kind f n x.children x.kind
+  evaluated f n (Some x) = way f x.children (way_of n x.kind)
 
   -- ---- fields
 
@@ -115,23 +116,19 @@ module _ (core : CoreData) (around : Around) where
   put name (Prim e) v f = tt
 
   get_allowed : (f : Frame) (k : NodeKind) → Allowed core around (get_task core around f k)
-  get_allowed f (node.Field name) = top f f.stack _ (read name)
-  get_allowed f k = tt
+  get_allowed f k = at (read_field k) _ (λ name. top f f.stack _ (read name))
 
   put_allowed : (f : Frame) (k : NodeKind) → Allowed core around (put_task core around f k)
-  put_allowed f (node.SetField name) = top f f.stack _ (λ o g. top g g.stack _ (put name o))
-  put_allowed f k = tt
+  put_allowed f k = at (written_field k) _ (λ name. top f f.stack _ (λ o g. top g g.stack _ (put name o)))
 
   store_allowed : (f : Frame) (k : NodeKind) → Allowed core around (store_task f k)
-  store_allowed f (node.Define s) = top f f.stack (store s) (λ v g. tt)
-  store_allowed f (node.Assign s) = top f f.stack (store s) (λ v g. tt)
-  store_allowed f k = tt
+  store_allowed f k = at (stored_slot k) _ (λ s. top f f.stack (store s) (λ v g. tt))
 
   -- ---- operators
 
-  given : (f : Frame) (o : Option Value) → Allowed core around (push_or_lack f o)
-  given f None = tt
-  given f (Some v) = tt
+  result : (f : Frame) (o : Option Value) → Allowed core around (push_or_lack f o)
+  result f None = tt
+  result f (Some v) = tt
 
   texts : (f : Frame) (o : Op) (a b : List ℕ) → Allowed core around (of_texts f o a b)
   texts f op.Add a b = if_true (nat_lt 4096 (length (a ++ b))) _ _ (λ e. tt) tt
@@ -140,9 +137,9 @@ module _ (core : CoreData) (around : Around) where
   texts f o a b = tt
 
   operated : (f : Frame) (o : Op) (v w : Value) → Allowed core around (binary f o v w)
-  operated f o (Num a) (Num b) = given f (of_numbers o a b)
+  operated f o (Num a) (Num b) = result f (of_numbers o a b)
   operated f o (Num a) w = tt
-  operated f o (Truth a) (Truth b) = given f (of_truths o a b)
+  operated f o (Truth a) (Truth b) = result f (of_truths o a b)
   operated f o (Truth a) w = tt
   operated f o (Text a) (Text b) = texts f o a b
   operated f o (Text a) w = tt
@@ -152,11 +149,13 @@ module _ (core : CoreData) (around : Around) where
   not_allowed f (Truth b) = tt
   not_allowed f v = tt
 
+  operator : (f : Frame) (o : Operation) → Allowed core around (applied f o)
+  operator f (applies.Binary o) = top f f.stack _ (λ w g. top g g.stack _ (λ v h. operated h o v w))
+  operator f (applies.Same b) = top f f.stack (λ w g. pop g (λ v h. compared h b v w)) (λ w g. top g g.stack (λ v h. compared h b v w) (λ v h. tt))
+  operator f applies.Not = top f f.stack _ (λ v g. not_allowed g v)
+
   apply_allowed : (f : Frame) (k : NodeKind) → Allowed core around (apply_task f k)
-  apply_allowed f (node.Binary o) = top f f.stack _ (λ w g. top g g.stack _ (λ v h. operated h o v w))
-  apply_allowed f (node.Same b) = top f f.stack (λ w g. pop g (λ v h. compared h b v w)) (λ w g. top g g.stack (λ v h. compared h b v w) (λ v h. tt))
-  apply_allowed f node.Not = top f f.stack _ (λ v g. not_allowed g v)
-  apply_allowed f k = tt
+  apply_allowed f k = at (operation k) _ (operator f)
 
   -- ---- choices
 
@@ -171,18 +170,14 @@ module _ (core : CoreData) (around : Around) where
   right f (a ∷ b ∷ []) = tt
   right f cs = tt
 
-  and_allowed : (cs : List ℕ) (b : Bool) (f : Frame) → Allowed core around (test_and cs b f)
-  and_allowed cs false f = tt
-  and_allowed cs true f = right f cs
-
-  or_allowed : (cs : List ℕ) (b : Bool) (f : Frame) → Allowed core around (test_or cs b f)
-  or_allowed cs true f = tt
-  or_allowed cs false f = right f cs
+  decides : (o : Connective) (cs : List ℕ) (b : Bool) (f : Frame) → Allowed core around (decided o cs b f)
+  decides joins.And cs false f = tt
+  decides joins.And cs true f = right f cs
+  decides joins.Or cs true f = tt
+  decides joins.Or cs false f = right f cs
 
   test_allowed : (f : Frame) (cs : List ℕ) (k : NodeKind) → Allowed core around (test_task f cs k)
-  test_allowed f cs node.And = top f f.stack _ (told (test_and cs) (and_allowed cs))
-  test_allowed f cs node.Or = top f f.stack _ (told (test_or cs) (or_allowed cs))
-  test_allowed f cs k = tt
+  test_allowed f cs k = at (connective k) _ (λ o. top f f.stack _ (told (decided o cs) (decides o cs)))
 
   branched : (cs : List ℕ) (b : Bool) (f : Frame) → Allowed core around (branch cs b f)
   branched (c ∷ a ∷ b ∷ []) true f = tt
@@ -255,8 +250,8 @@ module _ (core : CoreData) (around : Around) where
   on name this vs f (Some e) = named name this vs f (method_named core e name)
 
   invoke_allowed : (f : Frame) (cs : List ℕ) (k : NodeKind) → Allowed core around (invoke_task core around f cs k)
-  invoke_allowed f cs (node.Call name) = top f f.stack _ (λ this g. arguments g (popped (length cs - 1) g.stack []) _ (λ vs h. on name this vs h (value_entity around.objects this)))
-  invoke_allowed f cs k = tt
+  invoke_allowed f cs k =
+      at (called_name k) _ (λ name. top f f.stack _ (λ this g. arguments g (popped (length cs - 1) g.stack []) _ (λ vs h. on name this vs h (value_entity around.objects this))))
 
   -- ---- the end of a method
 
@@ -276,10 +271,6 @@ module _ (core : CoreData) (around : Around) where
   return_allowed f (Some x) = left f x.kind
 
   -- ---- each task
-
-  at : (o : Option Node) (next : Node → Move) → ((x : Node) → Allowed core around (next x)) → Allowed core around (at_node o next)
-  at None next h = tt
-  at (Some x) next h = h x
 
   pub task_allowed : (f : Frame) (t : Task) → Allowed core around (task_move core around f t)
   task_allowed f (task.Eval n) = evaluated f n (slice_get core.nodes n)

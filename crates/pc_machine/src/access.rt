@@ -5,7 +5,7 @@ ghost use Rattle.pc_semantics.specs.Configurations as configurations;
 ghost use Rattle.pc_machine.specs.States.{configuration_of};
 
 use crate::state::State;
-use pc_core::{Core, NodeKind};
+use pc_core::Core;
 use pc_heap::{Address, Heap, Value};
 use pc_semantics::{Access, Frame, Task};
 
@@ -19,70 +19,6 @@ fn address_of(value: &Value) -> Option<Address>
     }
 }
 
-// The name of the field that a node reads.
-fn name_read(kind: &NodeKind) -> Option<u32>
-    ensures { result ≡ spec.name_read kind.now }
-{
-    match kind {
-        NodeKind::Field(name) => Some(*name),
-        NodeKind::Number(_)
-        | NodeKind::Truth(_)
-        | NodeKind::Text(_)
-        | NodeKind::Prim(_)
-        | NodeKind::This
-        | NodeKind::Local(_)
-        | NodeKind::Consume(_)
-        | NodeKind::SetField(_)
-        | NodeKind::Define(_)
-        | NodeKind::Assign(_)
-        | NodeKind::New(_)
-        | NodeKind::Spawn(_)
-        | NodeKind::Call(_)
-        | NodeKind::Binary(_)
-        | NodeKind::Not
-        | NodeKind::And
-        | NodeKind::Or
-        | NodeKind::Same(_)
-        | NodeKind::Seq
-        | NodeKind::If
-        | NodeKind::While
-        | NodeKind::Recover(_)
-        | NodeKind::Body => None,
-    }
-}
-
-// The name of the field that a node writes.
-fn name_written(kind: &NodeKind) -> Option<u32>
-    ensures { result ≡ spec.name_written kind.now }
-{
-    match kind {
-        NodeKind::SetField(name) => Some(*name),
-        NodeKind::Number(_)
-        | NodeKind::Truth(_)
-        | NodeKind::Text(_)
-        | NodeKind::Prim(_)
-        | NodeKind::This
-        | NodeKind::Local(_)
-        | NodeKind::Consume(_)
-        | NodeKind::Field(_)
-        | NodeKind::Define(_)
-        | NodeKind::Assign(_)
-        | NodeKind::New(_)
-        | NodeKind::Spawn(_)
-        | NodeKind::Call(_)
-        | NodeKind::Binary(_)
-        | NodeKind::Not
-        | NodeKind::And
-        | NodeKind::Or
-        | NodeKind::Same(_)
-        | NodeKind::Seq
-        | NodeKind::If
-        | NodeKind::While
-        | NodeKind::Recover(_)
-        | NodeKind::Body => None,
-    }
-}
-
 // The name of the field that a task reads or writes, and whether it writes.
 fn touched_name(core: &Core, task: Task) -> Option<(u32, bool)>
     ensures { result ≡ spec.touched_name core.now task }
@@ -90,12 +26,12 @@ fn touched_name(core: &Core, task: Task) -> Option<(u32, bool)>
     match task {
         Task::Get(number) => {
             let node = core.node_at(number)?;
-            let name = name_read(&node.kind)?;
+            let name = node.kind.read_field()?;
             Some((name, false))
         }
         Task::Put(number) => {
             let node = core.node_at(number)?;
-            let name = name_written(&node.kind)?;
+            let name = node.kind.written_field()?;
             Some((name, true))
         }
         Task::Eval(_)
