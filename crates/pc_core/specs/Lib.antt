@@ -6,6 +6,7 @@ pub mod Entities
 pub mod Methods
 pub mod Nodes
 pub mod Kinds
+pub mod FurtherKinds
 pub mod Formed
 pub mod Members
 pub mod Growing

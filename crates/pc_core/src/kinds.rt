@@ -1,5 +1,6 @@
 //! What a node of a kind does: each question about kinds has its answer here, where every kind is named.
 ghost use Rattle.std.specs.Prelude.{◌≡◌};
+ghost use Rattle.pc_core.specs.FurtherKinds as further;
 ghost use Rattle.pc_core.specs.Kinds as spec;
 
 use crate::nodes::NodeKind;
@@ -27,7 +28,7 @@ impl NodeKind {
     /// The slot that a node of this kind defines.
     #[inline(always)]
     pub fn defined_slot(&self) -> Option<u32>
-        ensures { result ≡ spec.defined_slot self.now }
+        ensures { result ≡ further.defined_slot self.now }
     {
         match self {
             NodeKind::Define(slot) => Some(*slot),
@@ -92,7 +93,7 @@ impl NodeKind {
     /// The slot whose value is read, and stays there.
     #[inline(always)]
     pub fn local_slot(&self) -> Option<u32>
-        ensures { result ≡ spec.local_slot self.now }
+        ensures { result ≡ further.local_slot self.now }
     {
         match self {
             NodeKind::Local(slot) => Some(*slot),
@@ -125,7 +126,7 @@ impl NodeKind {
     /// The slot whose value is consumed.
     #[inline(always)]
     pub fn consumed_slot(&self) -> Option<u32>
-        ensures { result ≡ spec.consumed_slot self.now }
+        ensures { result ≡ further.consumed_slot self.now }
     {
         match self {
             NodeKind::Consume(slot) => Some(*slot),
@@ -257,7 +258,7 @@ impl NodeKind {
     /// The constructor, of a class or an actor, by the number of its method.
     #[inline(always)]
     pub fn constructor(&self) -> Option<u32>
-        ensures { result ≡ spec.constructor self.now }
+        ensures { result ≡ further.constructor self.now }
     {
         match self {
             NodeKind::New(method) | NodeKind::Spawn(method) => Some(*method),
@@ -289,7 +290,7 @@ impl NodeKind {
     /// The name of the field or the method that a node of this kind reads, writes or calls, by its number.
     #[inline(always)]
     pub fn member_name(&self) -> Option<u32>
-        ensures { result ≡ spec.member_name self.now }
+        ensures { result ≡ further.member_name self.now }
     {
         match self {
             NodeKind::Field(name) | NodeKind::SetField(name) | NodeKind::Call(name) => Some(*name),

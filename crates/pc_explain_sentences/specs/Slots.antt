@@ -2,7 +2,7 @@
 use Rattle.std.specs.Prelude.{ℕ, zero, suc, ◌+◌, Bool, false, ◌&&◌, not, nat_eq, List, [], ◌∷◌, take, Option, Some, None, slice_get, if◌then◌else◌}
 use Rattle.pc_ann.specs.declared.annotation.Note.{Note}
 use Rattle.pc_base.specs.Limits.{field_limit, slot_limit}
-use Rattle.pc_core.specs.{declared.nodes.Node.Node, declared.nodes.NodeKind.NodeKind, Kinds.consumed_slot}
+use Rattle.pc_core.specs.{declared.nodes.Node.Node, declared.nodes.NodeKind.NodeKind, FurtherKinds.consumed_slot}
 use Rattle.pc_masks.specs.{Masks.has, declared.mask.Mask.Mask}
 use Rattle.pc_explain_words.specs.Scene.{child}
 use Rattle.pc_explain_sentences.specs.Stop.{StopData}

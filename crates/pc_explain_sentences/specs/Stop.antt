@@ -1,7 +1,7 @@
 -- A node at which no rule holds, and what can be read from it.
 use Rattle.std.specs.Prelude.{ℕ, ◌-◌, [], length, Option, Some, None, slice_get, unwrap_or}
 use Rattle.pc_caps.specs.declared.capability.Form.{Form}
-use Rattle.pc_core.specs.{CoreData.CoreData, declared.declarations.EntityDef.EntityDef, declared.declarations.FieldInfo.FieldInfo, declared.declarations.Method.Method, declared.nodes.Node.Node, declared.nodes.NodeKind.NodeKind, Kinds.{called_name, constructor, member_name}}
+use Rattle.pc_core.specs.{CoreData.CoreData, declared.declarations.EntityDef.EntityDef, declared.declarations.FieldInfo.FieldInfo, declared.declarations.Method.Method, declared.nodes.Node.Node, declared.nodes.NodeKind.NodeKind, Kinds.called_name, FurtherKinds.{constructor, member_name}}
 use Rattle.pc_base.specs.Lists.{◌>>=◌, Text}
 use Rattle.pc_masks.specs.{Masks.first, declared.mask.Mask.Mask}
 use Rattle.pc_explain_parts.specs.{Members.node_callee, Parts.{child_role, shown_node}}

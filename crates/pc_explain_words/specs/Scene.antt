@@ -2,7 +2,7 @@
 use Rattle.std.specs.{Prelude.{ℕ, zero, suc, ◌+◌, Bool, true, false, ◌&&◌, not, nat_eq, nat_lt, List, [], drop, Option, Some, None, slice_get, codes}, List.find, Option.option_map_or, Str.bytes_eq}
 use Rattle.pc_ann.specs.declared.annotation.Note.{Note}
 use Rattle.pc_caps.specs.{declared.capability.Cap.Cap, declared.capability.Form.Form}
-use Rattle.pc_core.specs.{CoreData.CoreData, Kinds.defined_slot, declared.declarations.Method.Method, declared.declarations.ParamInfo.ParamInfo, declared.nodes.Node.Node, declared.nodes.NodeKind.NodeKind, declared.nodes.Slot.Slot, declared.nodes.SlotKind.SlotKind}
+use Rattle.pc_core.specs.{CoreData.CoreData, FurtherKinds.defined_slot, declared.declarations.Method.Method, declared.declarations.ParamInfo.ParamInfo, declared.nodes.Node.Node, declared.nodes.NodeKind.NodeKind, declared.nodes.Slot.Slot, declared.nodes.SlotKind.SlotKind}
 use Rattle.pc_base.specs.Lists.{◌>>=◌, Text}
 use Rattle.pc_token.specs.declared.kinds.Token.{Token}
 use Rattle.pc_explain_window.specs.Places.{piece_of}

@@ -1,7 +1,7 @@
 -- What the core does not record: where the name of a slot is in the source, and in which entity a method is written.
 use Rattle.std.specs.{Prelude.{ℕ, ◌-◌, Bool, false, ◌&&◌, List, [], length, Option, Some, None, nat_eq, nat_lt, nat_le, if◌then◌else◌, slice_get, slice_range, find, count_by}, Option.option_map_or}
 use Rattle.pc_base.specs.{declared.span.Span.Span, Lists.{◌>>=◌, Text}}
-use Rattle.pc_core.specs.{CoreData.CoreData, Further.own_nodes, Kinds.defined_slot, declared.declarations.EntityDef.EntityDef, declared.declarations.Method.Method, declared.nodes.Node.Node, declared.nodes.NodeKind.NodeKind, declared.nodes.Slot.Slot, declared.nodes.SlotKind.SlotKind}
+use Rattle.pc_core.specs.{CoreData.CoreData, Further.own_nodes, FurtherKinds.defined_slot, declared.declarations.EntityDef.EntityDef, declared.declarations.Method.Method, declared.nodes.Node.Node, declared.nodes.NodeKind.NodeKind, declared.nodes.Slot.Slot, declared.nodes.SlotKind.SlotKind}
 use Rattle.pc_token.specs.declared.kinds.Token.{Token}
 use Rattle.pc_core.specs.declared.nodes.SlotKind.TheVariants as slot
 

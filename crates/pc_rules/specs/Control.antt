@@ -4,7 +4,7 @@ use Rattle.pc_caps.specs.{Computed.fits, Tables.{unalias, lift}, declared.capabi
 use Rattle.pc_rules.specs.{Parts.{says_of, reads_as, lower, constructs, all_fields, starts, through_notes, one_note, one_type, two_notes, three_notes, last_note}, Operators.meet_masks, declared.said.Said.Said}
 use Rattle.pc_valid.specs.Words.{Ty, Masks, masks_after}
 use Rattle.pc_tree.specs.Kinds.{none_entity, bool_entity}
-use Rattle.pc_core.specs.{declared.declarations.Method.Method, declared.declarations.MethodKind.MethodKind, declared.nodes.Node.Node, declared.nodes.NodeKind.NodeKind, CoreData.CoreData, Kinds.defined_slot}
+use Rattle.pc_core.specs.{declared.declarations.Method.Method, declared.declarations.MethodKind.MethodKind, declared.nodes.Node.Node, declared.nodes.NodeKind.NodeKind, CoreData.CoreData, FurtherKinds.defined_slot}
 use Rattle.pc_base.specs.Lists.{◌>>=◌}
 use Rattle.pc_masks.specs.{declared.mask.Mask.Mask, Masks.{empty, first, without_number, within, same}}
 use Rattle.pc_ann.specs.declared.annotation.Note.{Note}

@@ -1,7 +1,7 @@
 -- What a walk over methods finds, step by step.
 use Rattle.std.specs.Prelude.{◌≡◌, ◌⊎◌, ◌↔◌, ℕ, ◌+◌, ◌-◌, Bool, List, [], Option, Some, None, slice_get, if◌then◌else◌}
 use Rattle.std.proofs.{Common.{inl, inr, ap, sym, subst, ◌∙◌, arith}, lemmas.Option.{same_Some, none-some}}
-use Rattle.pc_core.specs.{declared.declarations.Method.Method, declared.nodes.Node.Node, declared.nodes.NodeKind.NodeKind, CoreData.{CoreData, method_named, node_end}, Kinds.{constructor, called_name}, Formed.Formed, Further.own_nodes}
+use Rattle.pc_core.specs.{declared.declarations.Method.Method, declared.nodes.Node.Node, declared.nodes.NodeKind.NodeKind, CoreData.{CoreData, method_named, node_end}, FurtherKinds.constructor, Kinds.called_name, Formed.Formed, Further.own_nodes}
 use Rattle.pc_core.specs.declared.nodes.NodeKind.TheVariants as nodes
 use Rattle.pc_base.specs.Lists.{◌>>=◌, Has}
 use Rattle.pc_base.proofs.{Options.{bind_some, bind_is, kept}, Gets.{get_within, get_range, range_get}}
