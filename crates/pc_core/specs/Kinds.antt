@@ -12,24 +12,24 @@ stored_slot (node.Assign s) = Some s
 stored_slot k = None
 
 -- The names of the field that is read, of the field that is written, and of the method that is called, by their numbers.
-abbrev pub read_field : NodeKind → Option ℕ
-read_field (node.Field name) = Some name
-read_field k = None
+abbrev pub field_read : NodeKind → Option ℕ
+field_read (node.Field name) = Some name
+field_read k = None
 
-abbrev pub written_field : NodeKind → Option ℕ
-written_field (node.SetField name) = Some name
-written_field k = None
+abbrev pub field_written : NodeKind → Option ℕ
+field_written (node.SetField name) = Some name
+field_written k = None
 
 abbrev pub called_name : NodeKind → Option ℕ
 called_name (node.Call name) = Some name
 called_name k = None
 
 -- The operator that is applied to the values of all children, and that whose left side may decide alone.
-abbrev pub operation : NodeKind → Option Operation
-operation (node.Binary op) = Some (applies.Binary op)
-operation (node.Same wanted) = Some (applies.Same wanted)
-operation node.Not = Some applies.Not
-operation k = None
+abbrev pub applied_operation : NodeKind → Option Operation
+applied_operation (node.Binary op) = Some (applies.Binary op)
+applied_operation (node.Same wanted) = Some (applies.Same wanted)
+applied_operation node.Not = Some applies.Not
+applied_operation k = None
 
 abbrev pub connective : NodeKind → Option Connective
 connective node.And = Some joins.And

@@ -158,8 +158,8 @@ impl NodeKind {
 
     /// The name of the field that is read, by its number.
     #[inline(always)]
-    pub fn read_field(&self) -> Option<u32>
-        ensures { result ≡ spec.read_field self.now }
+    pub fn field_read(&self) -> Option<u32>
+        ensures { result ≡ spec.field_read self.now }
     {
         match self {
             NodeKind::Field(name) => Some(*name),
@@ -191,8 +191,8 @@ impl NodeKind {
 
     /// The name of the field that is written, by its number.
     #[inline(always)]
-    pub fn written_field(&self) -> Option<u32>
-        ensures { result ≡ spec.written_field self.now }
+    pub fn field_written(&self) -> Option<u32>
+        ensures { result ≡ spec.field_written self.now }
     {
         match self {
             NodeKind::SetField(name) => Some(*name),
@@ -320,8 +320,8 @@ impl NodeKind {
 
     /// The operator that is applied to the values of all children.
     #[inline(always)]
-    pub fn operation(&self) -> Option<Operation>
-        ensures { result ≡ spec.operation self.now }
+    pub fn applied_operation(&self) -> Option<Operation>
+        ensures { result ≡ spec.applied_operation self.now }
     {
         match self {
             NodeKind::Binary(op) => Some(Operation::Binary(*op)),

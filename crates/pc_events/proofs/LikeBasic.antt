@@ -4,12 +4,12 @@ use Rattle.std.proofs.{Common.{inl, inr, ap, sym, subst, ◌∙◌}, lemmas.Opti
 use Rattle.pc_heap.specs.{declared.value.Address.Address, declared.value.Value.Value, declared.value.Value.TheVariants.{Num, Truth, Text, Prim, At}}
 use Rattle.pc_tree.specs.declared.kinds.Op.{Op}
 use Rattle.pc_tree.specs.declared.kinds.Op.TheVariants as op
-use Rattle.pc_core.specs.{CoreData.CoreData, declared.declarations.Method.Method, declared.declarations.MethodKind.MethodKind, declared.kinds.Connective.Connective, declared.kinds.Operation.Operation, declared.nodes.Node.Node, declared.nodes.NodeKind.NodeKind, Kinds.{stored_slot, operation, connective}}
+use Rattle.pc_core.specs.{CoreData.CoreData, declared.declarations.Method.Method, declared.declarations.MethodKind.MethodKind, declared.kinds.Connective.Connective, declared.kinds.Operation.Operation, declared.nodes.Node.Node, declared.nodes.NodeKind.NodeKind, Kinds.{stored_slot, applied_operation, connective}}
 use Rattle.pc_core.specs.declared.kinds.Connective.TheVariants as joins
 use Rattle.pc_core.specs.declared.kinds.Operation.TheVariants as applies
 use Rattle.pc_core.specs.declared.declarations.MethodKind.TheVariants as method
 use Rattle.pc_core.specs.declared.nodes.NodeKind.TheVariants as node
-use Rattle.pc_semantics.specs.{declared.frames.Frame.Frame, declared.frames.Task.Task, declared.outcome.Lack.Lack, Configurations.{Around, Move, Stuck, Overflows, Goes, Writes, Makes, Spawns, Enters, Sends, Leaves, given, with_stack, pushed, with_slot, doing, none, pop, popped, pop_arguments}, Parts.{value_or_none, with_top, with_popped, push_slot, take_slot, evaluate_node, push_or_lack, with_second_number, with_truth, with_text, negated, same_address, is_number, is_truth, is_text, is_primitive, is_object, compared, held, leave_object, return_task, at_node}, Children.evaluations, Evaluation.{Way, Gives, Reads, Takes, AllThen, FirstThen, Items, way_of, first_then, item_tasks, by_way, truth, applied, apply_task, right_side, decided, test_task, branch, loop_turn, of_numbers, of_truths, of_texts, binary, same_truth, same_value}, Calls.{store, store_task, leave}, Step.task_move}
+use Rattle.pc_semantics.specs.{declared.frames.Frame.Frame, declared.frames.Task.Task, declared.outcome.Lack.Lack, Configurations.{Around, Move, Stuck, Overflows, Goes, Writes, Makes, Spawns, Enters, Sends, Leaves, given, with_stack, pushed, with_slot, doing, none, pop, popped, pop_arguments}, Parts.{value_or_none, with_top, with_popped, push_slot, take_slot, evaluate_node, push_or_lack, with_second_number, with_truth, with_text, negated, same_address, is_number, is_truth, is_text, is_primitive, is_object, compared, held, leave_object, return_task, at_node}, Children.evaluations, Evaluation.{Way, Gives, Copies, Takes, AllThen, FirstThen, Items, way_of, first_then, item_tasks, by_way, truth, applied, apply_task, right_side, decided, test_task, branch, loop_turn, of_numbers, of_truths, of_texts, binary, same_truth, same_value}, Calls.{store, store_task, leave}, Step.task_move}
 use Rattle.pc_semantics.specs.declared.frames.Task.TheVariants as task
 use Rattle.pc_semantics.specs.declared.outcome.Lack.TheVariants as lack
 use Rattle.pc_base.specs.Limits.{text_limit}
@@ -118,7 +118,7 @@ module _ (names : List ℕ) (next : ℕ) where
 
   way_like : (f g : Frame) (cs : List ℕ) (w : Way) → GivesItself w → FrameLike names f g → M (by_way f cs w) (by_way g cs w)
   way_like f g cs (Gives v) l k = pushed_like f g v v k l
-  way_like f g cs (Reads s) l k = push_like f g k (slice_get f.slots s) (slice_get g.slots s) (slots_get names f.slots g.slots s k.slots)
+  way_like f g cs (Copies s) l k = push_like f g k (slice_get f.slots s) (slice_get g.slots s) (slots_get names f.slots g.slots s k.slots)
   way_like f g cs (Takes s) l k = take_like f g s k (slice_get f.slots s) (slice_get g.slots s) (slots_get names f.slots g.slots s k.slots)
   way_like f g cs (AllThen t) l k = doing_like f g (evaluations cs ++ t ∷ []) k
   way_like f g cs (FirstThen ts) l k = first_like f g cs ts k
@@ -317,7 +317,7 @@ module _ (names : List ℕ) (next : ℕ) where
     applied_like f g applies.Not k = pop_like f g k _ _ (λ v w a b l m. negated_like a b m v w l)
 
     apply_like : (f g : Frame) (kind : NodeKind) → FrameLike names f g → M (apply_task f kind) (apply_task g kind)
-    apply_like f g kind k = given_like (operation kind) _ _ (λ o. applied_like f g o k)
+    apply_like f g kind k = given_like (applied_operation kind) _ _ (λ o. applied_like f g o k)
 
     -- ---- every task that sees nothing besides its frame
 

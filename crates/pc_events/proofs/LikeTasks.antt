@@ -3,7 +3,7 @@ use Rattle.std.specs.{Prelude.{◌≡◌, ◌<◌, ℕ, suc, ◌-◌, ◌&&◌, 
 use Rattle.std.proofs.{Common.{ap, sym, subst, ◌∙◌}, lemmas.Option.same_Some, lemmas.Bool.{and_parts, lt-ltb}}
 use Rattle.pc_base.proofs.Gets.{get_behind}
 use Rattle.pc_heap.specs.{Objects.{ObjectMap, class_at, made_by, next_address, Object}, Parts.{class_in, field_in}, Fields.field_at, declared.value.Address.Address, declared.value.Value.Value, declared.value.Value.TheVariants.{Num, Truth, Text, Prim, At}}
-use Rattle.pc_core.specs.{CoreData.{field_named, method_named, CoreData}, declared.declarations.Method.Method, declared.declarations.MethodKind.MethodKind, declared.nodes.Node.Node, declared.nodes.NodeKind.NodeKind, Kinds.{read_field, written_field}}
+use Rattle.pc_core.specs.{CoreData.{field_named, method_named, CoreData}, declared.declarations.Method.Method, declared.declarations.MethodKind.MethodKind, declared.nodes.Node.Node, declared.nodes.NodeKind.NodeKind, Kinds.{field_read, field_written}}
 use Rattle.pc_base.specs.Lists.{◌>>=◌}
 use Rattle.pc_core.specs.declared.declarations.MethodKind.TheVariants as method
 use Rattle.pc_core.specs.declared.nodes.NodeKind.TheVariants as node
@@ -112,12 +112,12 @@ module _ (core : CoreData) (names : List ℕ) (h h2 : ObjectMap) (i i2 n n2 : �
 
   get_like : (k : ℕ) (f g : Frame) (x : Node) → slice_get core.nodes k ≡ Some x → (kind : NodeKind) → x.kind ≡ kind → AroundLike g.stack (task.Get k) → FrameLike names f g → M (get_task core one f kind) (get_task core two g kind)
   get_like k f g x e (node.Field name) q r l =
-      get_top (task.Get k) name false (ap (λ (z : Option Node). z >>= (λ x. read_field x.kind >>= (λ name. Some (name, false)))) e ∙ ap (λ (z : NodeKind). read_field z >>= (λ name. Some (name, false))) q) f.stack g.stack f g l.stack r l
+      get_top (task.Get k) name false (ap (λ (z : Option Node). z >>= (λ x. field_read x.kind >>= (λ name. Some (name, false)))) e ∙ ap (λ (z : NodeKind). field_read z >>= (λ name. Some (name, false))) q) f.stack g.stack f g l.stack r l
   get_like k f g x e kind q r l = tt
 
   put_like : (k : ℕ) (f g : Frame) (x : Node) → slice_get core.nodes k ≡ Some x → (kind : NodeKind) → x.kind ≡ kind → AroundLike g.stack (task.Put k) → FrameLike names f g → M (put_task core one f kind) (put_task core two g kind)
   put_like k f g x e (node.SetField name) q r l =
-      put_top (task.Put k) name true (ap (λ (z : Option Node). z >>= (λ x. written_field x.kind >>= (λ name. Some (name, true)))) e ∙ ap (λ (z : NodeKind). written_field z >>= (λ name. Some (name, true))) q) f.stack g.stack f g l.stack r l
+      put_top (task.Put k) name true (ap (λ (z : Option Node). z >>= (λ x. field_written x.kind >>= (λ name. Some (name, true)))) e ∙ ap (λ (z : NodeKind). field_written z >>= (λ name. Some (name, true))) q) f.stack g.stack f g l.stack r l
   put_like k f g x e kind q r l = tt
 
   get_node : (k : ℕ) (f g : Frame) (o : Option Node) → slice_get core.nodes k ≡ o → AroundLike g.stack (task.Get k) → FrameLike names f g → M (at_node o (λ x. get_task core one f x.kind)) (at_node o (λ x. get_task core two g x.kind))

@@ -4,7 +4,7 @@ use Rattle.std.proofs.{Common.{inl, inr, ap, sym, subst, ◌∙◌, arith}, lemm
 use Rattle.pc_base.proofs.Gets.{get_below, get_within, get_front}
 use Rattle.pc_heap.specs.{Objects.{ObjectMap, class_at, Object}, Parts.class_in, declared.value.Address.Address, declared.value.Value.Value, declared.value.Value.TheVariants.At}
 use Rattle.pc_base.specs.Lists.{◌>>=◌}
-use Rattle.pc_core.specs.{CoreData.{field_named, CoreData}, declared.nodes.Node.Node, declared.nodes.NodeKind.NodeKind, Kinds.{read_field, written_field}}
+use Rattle.pc_core.specs.{CoreData.{field_named, CoreData}, declared.nodes.Node.Node, declared.nodes.NodeKind.NodeKind, Kinds.{field_read, field_written}}
 use Rattle.pc_core.specs.declared.nodes.NodeKind.TheVariants as node
 use Rattle.pc_semantics.specs.{declared.access.Access.Access, declared.actors.Actor.Actor, declared.frames.Frame.Frame, declared.frames.Task.Task, declared.mailbox.Message.Message, declared.outcome.Outcome.Outcome, declared.outcome.Outcome.TheVariants.{Moved, Skipped}, Configurations.{Configuration, start, Around, with_stack, pop, address_of}, Parts.{with_top, get_field, put_field, get_of, get_from, put_of, put_into, at_node, step_of, run_task}, Calls.{get_task, put_task}, Step.{task_move, step, run_frames, made, followed, run_from, after, outcomes}, Safety.{touched_name, access_of, access, Race, LacksNothing, Safe}, Ahead.ahead_of}
 use Rattle.pc_semantics.specs.declared.frames.Task.TheVariants as task
@@ -107,8 +107,8 @@ touches_some core a f (task.Get k) n is s = by_node (slice_get core.nodes k) ref
     by_kind x e (node.Field name) q s =
         let r = get_some core a name false f.stack f s in (
           r.0,
-          ap (λ (z : Option Node). (z >>= (λ x. read_field x.kind >>= (λ name. Some (name, false)))) >>= (λ n. touch_by core a.objects n (slice_get f.stack 0))) e
-              ∙ ap (λ (z : NodeKind). (read_field z >>= (λ name. Some (name, false))) >>= (λ n. touch_by core a.objects n (slice_get f.stack 0))) q ∙ r.1,
+          ap (λ (z : Option Node). (z >>= (λ x. field_read x.kind >>= (λ name. Some (name, false)))) >>= (λ n. touch_by core a.objects n (slice_get f.stack 0))) e
+              ∙ ap (λ (z : NodeKind). (field_read z >>= (λ name. Some (name, false))) >>= (λ n. touch_by core a.objects n (slice_get f.stack 0))) q ∙ r.1,
         )
     by_kind x e kind q s = absurd s
 
@@ -121,8 +121,8 @@ touches_some core a f (task.Put k) n is s = by_node (slice_get core.nodes k) ref
     by_kind x e (node.SetField name) q s =
         let r = put_some core a name true f.stack f s in (
           r.0,
-          ap (λ (z : Option Node). (z >>= (λ x. written_field x.kind >>= (λ name. Some (name, true)))) >>= (λ n. touch_by core a.objects n (slice_get f.stack 0))) e
-              ∙ ap (λ (z : NodeKind). (written_field z >>= (λ name. Some (name, true))) >>= (λ n. touch_by core a.objects n (slice_get f.stack 0))) q ∙ r.1,
+          ap (λ (z : Option Node). (z >>= (λ x. field_written x.kind >>= (λ name. Some (name, true)))) >>= (λ n. touch_by core a.objects n (slice_get f.stack 0))) e
+              ∙ ap (λ (z : NodeKind). (field_written z >>= (λ name. Some (name, true))) >>= (λ n. touch_by core a.objects n (slice_get f.stack 0))) q ∙ r.1,
         )
     by_kind x e kind q s = absurd s
 

@@ -3,7 +3,7 @@ use Rattle.std.specs.{Prelude.{◌≡◌, ◌<◌, ◌&&◌, ℕ, ◌-◌, Bool,
 use Rattle.std.proofs.{Common.{ap, ◌∙◌}, lemmas.Bool.{and_parts, ltb-true}}
 use Rattle.pc_base.proofs.Gets.{get_below}
 use Rattle.pc_heap.specs.{Objects.{ObjectMap, class_at, next_address, Object}, Parts.class_in, declared.value.Address.Address, declared.value.Value.Value, declared.value.Value.TheVariants.At}
-use Rattle.pc_core.specs.{CoreData.{field_named, method_named, CoreData}, declared.declarations.Method.Method, declared.declarations.MethodKind.MethodKind, declared.nodes.Node.Node, declared.nodes.NodeKind.NodeKind, Kinds.written_field}
+use Rattle.pc_core.specs.{CoreData.{field_named, method_named, CoreData}, declared.declarations.Method.Method, declared.declarations.MethodKind.MethodKind, declared.nodes.Node.Node, declared.nodes.NodeKind.NodeKind, Kinds.field_written}
 use Rattle.pc_base.specs.Lists.{◌>>=◌}
 use Rattle.pc_core.specs.declared.declarations.MethodKind.TheVariants as method
 use Rattle.pc_core.specs.declared.nodes.NodeKind.TheVariants as node
@@ -176,7 +176,7 @@ module _ (core : CoreData) (h : ObjectMap) (i n : ℕ) (k : ℕ) where
 
   put_right : (f : Frame) (x : Node) → slice_get core.nodes k ≡ Some x → (kind : NodeKind) → x.kind ≡ kind → Right core h i n f.stack (task.Put k) (put_task core (record { objects = h; actor = i; actors = n }) f kind)
   put_right f x e (node.SetField name) s =
-      first_right name f.stack f (ap (λ (z : Option Node). z >>= (λ x. written_field x.kind >>= (λ name. Some (name, true)))) e ∙ ap (λ (z : NodeKind). written_field z >>= (λ name. Some (name, true))) s)
+      first_right name f.stack f (ap (λ (z : Option Node). z >>= (λ x. field_written x.kind >>= (λ name. Some (name, true)))) e ∙ ap (λ (z : NodeKind). field_written z >>= (λ name. Some (name, true))) s)
   put_right f x e kind s = tt
 
   put_node_right : (f : Frame) (o : Option Node) → slice_get core.nodes k ≡ o → Right core h i n f.stack (task.Put k) (at_node o (λ x. put_task core (record { objects = h; actor = i; actors = n }) f x.kind))

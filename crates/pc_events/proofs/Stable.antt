@@ -2,7 +2,7 @@
 use Rattle.std.specs.{Prelude.{◌≡◌, ◌&&◌, ℕ, ◌-◌, Bool, true, false, if◌then◌else◌, List, [], ◌∷◌, length, Option, Some, None, slice_get, nat_lt, nat_eq, refl, ⊤}, FinMap.get}
 use Rattle.std.proofs.{Common.{ap, sym, ◌∙◌}, lemmas.Option.{same_Some, none-some}}
 use Rattle.pc_heap.specs.{Objects.{ObjectMap, class_at, made_by, Object}, Parts.{class_in, field_in}, Fields.field_at, declared.value.Address.Address, declared.value.Value.Value, declared.value.Value.TheVariants.{Num, Truth, Text, Prim, At}}
-use Rattle.pc_core.specs.{CoreData.{field_named, method_named, CoreData}, declared.declarations.Method.Method, declared.declarations.MethodKind.MethodKind, declared.nodes.Node.Node, declared.nodes.NodeKind.NodeKind, Kinds.{read_field, written_field}}
+use Rattle.pc_core.specs.{CoreData.{field_named, method_named, CoreData}, declared.declarations.Method.Method, declared.declarations.MethodKind.MethodKind, declared.nodes.Node.Node, declared.nodes.NodeKind.NodeKind, Kinds.{field_read, field_written}}
 use Rattle.pc_base.specs.Lists.{◌>>=◌}
 use Rattle.pc_core.specs.declared.declarations.MethodKind.TheVariants as method
 use Rattle.pc_core.specs.declared.nodes.NodeKind.TheVariants as node
@@ -106,7 +106,7 @@ module _ (core : CoreData) (h h2 : ObjectMap) (i n n2 : ℕ) where
 
   get_same : (k : ℕ) (f : Frame) (x : Node) → slice_get core.nodes k ≡ Some x → (kind : NodeKind) → x.kind ≡ kind → Kept f.stack (task.Get k) → NotStuck (get_task core old f kind) → get_task core new f kind ≡ get_task core old f kind
   get_same k f x e (node.Field name) q kept s =
-      get_top k name f.stack f kept (ap (λ (z : Option Node). z >>= (λ x. read_field x.kind >>= (λ name. Some (name, false)))) e ∙ ap (λ (z : NodeKind). read_field z >>= (λ name. Some (name, false))) q) s
+      get_top k name f.stack f kept (ap (λ (z : Option Node). z >>= (λ x. field_read x.kind >>= (λ name. Some (name, false)))) e ∙ ap (λ (z : NodeKind). field_read z >>= (λ name. Some (name, false))) q) s
   get_same k f x e kind q kept s = refl
 
   get_node : (k : ℕ) (f : Frame) (o : Option Node) → slice_get core.nodes k ≡ o → Kept f.stack (task.Get k) → NotStuck (at_node o (λ x. get_task core old f x.kind)) → at_node o (λ x. get_task core new f x.kind) ≡ at_node o (λ x. get_task core old f x.kind)
@@ -126,7 +126,7 @@ module _ (core : CoreData) (h h2 : ObjectMap) (i n n2 : ℕ) where
 
   put_same : (k : ℕ) (f : Frame) (x : Node) → slice_get core.nodes k ≡ Some x → (kind : NodeKind) → x.kind ≡ kind → Kept f.stack (task.Put k) → NotStuck (put_task core old f kind) → put_task core new f kind ≡ put_task core old f kind
   put_same k f x e (node.SetField name) q kept s =
-      put_top k name f.stack f kept (ap (λ (z : Option Node). z >>= (λ x. written_field x.kind >>= (λ name. Some (name, true)))) e ∙ ap (λ (z : NodeKind). written_field z >>= (λ name. Some (name, true))) q) s
+      put_top k name f.stack f kept (ap (λ (z : Option Node). z >>= (λ x. field_written x.kind >>= (λ name. Some (name, true)))) e ∙ ap (λ (z : NodeKind). field_written z >>= (λ name. Some (name, true))) q) s
   put_same k f x e kind q kept s = refl
 
   put_node : (k : ℕ) (f : Frame) (o : Option Node) → slice_get core.nodes k ≡ o → Kept f.stack (task.Put k) → NotStuck (at_node o (λ x. put_task core old f x.kind)) → at_node o (λ x. put_task core new f x.kind) ≡ at_node o (λ x. put_task core old f x.kind)

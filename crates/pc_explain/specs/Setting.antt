@@ -1,6 +1,6 @@
 -- The lines about a constructor that leaves a field unset.
 use Rattle.std.specs.{Prelude.{ℕ, ◌+◌, Bool, true, false, ◌&&◌, nat_eq, List, [], ◌∷◌, ◌++◌, Option, Some, None, filter, length, map, slice_get, take, codes, if◌then◌else◌}, Option.option_map_or}
-use Rattle.pc_core.specs.{CoreData.CoreData, Further.own_nodes, Kinds.written_field, declared.declarations.EntityDef.EntityDef, declared.declarations.FieldInfo.FieldInfo, declared.declarations.Method.Method, declared.nodes.Node.Node, declared.nodes.NodeKind.NodeKind}
+use Rattle.pc_core.specs.{CoreData.CoreData, Further.own_nodes, Kinds.field_written, declared.declarations.EntityDef.EntityDef, declared.declarations.FieldInfo.FieldInfo, declared.declarations.Method.Method, declared.nodes.Node.Node, declared.nodes.NodeKind.NodeKind}
 use Rattle.pc_explain_names.specs.Lists.{most, rest}
 use Rattle.pc_base.specs.Lists.{Text, line_end}
 use Rattle.pc_masks.specs.{Masks.has, declared.mask.Mask.Mask}
@@ -13,7 +13,7 @@ use Rattle.pc_explain_words.specs.Methods as methods
 -- ---- where a field is written
 
 abbrev pub writes_name : ℕ → NodeKind → Bool
-writes_name name k = option_map_or (λ written. nat_eq written name) (written_field k) false
+writes_name name k = option_map_or (λ written. nat_eq written name) (field_written k) false
 
 abbrev pub is_this_node : Option Node → Bool
 is_this_node None = false

@@ -20,7 +20,7 @@ const MOST: usize = 8;
 fn writes_name(name: u32, kind: &NodeKind) -> bool
     ensures { result ≡ spec.writes_name name kind.now }
 {
-    match kind.written_field() {
+    match kind.field_written() {
         Some(written) => written == name,
         None => false,
     }

@@ -1,7 +1,7 @@
 -- What a hint looks at.
 use Rattle.std.specs.{Prelude.{ℕ, Bool, true, false, ◌&&◌, nat_eq, Option, Some, None, slice_get, if◌then◌else◌}, List.list_any}
 use Rattle.pc_caps.specs.{Tables.taken, declared.capability.Cap.Cap, declared.capability.Form.Form}
-use Rattle.pc_core.specs.{CoreData.CoreData, declared.declarations.EntityDef.EntityDef, declared.declarations.FieldInfo.FieldInfo, declared.declarations.Method.Method, declared.nodes.Node.Node, declared.nodes.NodeKind.NodeKind, Kinds.{called_name, read_field}, FurtherKinds.local_slot}
+use Rattle.pc_core.specs.{CoreData.CoreData, declared.declarations.EntityDef.EntityDef, declared.declarations.FieldInfo.FieldInfo, declared.declarations.Method.Method, declared.nodes.Node.Node, declared.nodes.NodeKind.NodeKind, Kinds.{called_name, field_read}, FurtherKinds.local_slot}
 use Rattle.pc_base.specs.Lists.{◌>>=◌}
 use Rattle.pc_explain_parts.specs.{Members.{field_of_node, node_callee}, Parts.last_value}
 use Rattle.pc_rules.specs.Calls.{is_function}
@@ -92,7 +92,7 @@ old_from st (Some c) name = old_in st c name
 -- The form of the old value of a `var` field that the node reads.
 unfoldable pub old_form : StopData → Node → Option Form
 old_form st x = do
-  name ← read_field x.kind
+  name ← field_read x.kind
   old_from st (child x 0) name
 
 -- ---- results

@@ -152,7 +152,7 @@ fn old_from(stop: &Stop, origin: Option<u32>, name: u32) -> Option<Form>
 pub(crate) fn old_form(stop: &Stop, node: &Node) -> Option<Form>
     ensures { result ≡ spec.old_form stop.now node.now }
 {
-    let name = node.kind.read_field()?;
+    let name = node.kind.field_read()?;
     old_from(stop, child(node, 0), name)
 }
 

@@ -19,8 +19,8 @@ use Rattle.pc_explain_sentences.specs.declared.fills.Fill.TheVariants as fill
 abbrev pub of_form : StopData → Text → ℕ → Text
 of_form st sentence i = said st sentence (fill.Part i ∷ fill.PartForm i ∷ [])
 
-abbrev pub of_entity : StopData → Text → ℕ → Text
-of_entity st sentence i = said st sentence (fill.Part i ∷ fill.APartEntity i ∷ [])
+abbrev pub about_entity : StopData → Text → ℕ → Text
+about_entity st sentence i = said st sentence (fill.Part i ∷ fill.APartEntity i ∷ [])
 
 -- The reason of the node that the part shows, since the words before it say that this node has no type.
 abbrev pub reason_of : StopData → ℕ → Option ℕ → Text
@@ -103,8 +103,8 @@ sentence_of st r (asks.Under i e) = not_under st i e
 sentence_of st r (asks.Fits i k) = unfit st i k
 sentence_of st r (asks.Below i f) = said st NOT_BELOW.now (fill.Part i ∷ fill.PartForm i ∷ fill.OneForm f ∷ [])
 sentence_of st r (asks.IsA i e) = said st NOT_JUST.now (fill.Part i ∷ fill.APartEntity i ∷ fill.AnEntity e ∷ [])
-sentence_of st r (asks.Comparable i) = of_entity st COMPARED.now i
-sentence_of st r (asks.Printable i) = of_entity st PRINTED.now i
+sentence_of st r (asks.Comparable i) = about_entity st COMPARED.now i
+sentence_of st r (asks.Printable i) = about_entity st PRINTED.now i
 sentence_of st r (asks.Readable i) = of_form st UNREADABLE.now i
 sentence_of st r (asks.Live k) = not_live st k
 sentence_of st r (asks.Reached k) = said st NOT_REACHED.now (fill.Slot k ∷ fill.SlotCap k ∷ fill.UsedWord ∷ [])

@@ -1,6 +1,6 @@
 -- Why a value has no type.
 use Rattle.std.specs.{Prelude.{ℕ, zero, suc, [], ◌∷◌, ◌++◌, length, Option, Some, None, slice_get, if◌then◌else◌}, Option.is_none}
-use Rattle.pc_core.specs.{declared.nodes.Node.Node, declared.nodes.NodeKind.NodeKind, Kinds.{called_name, stored_slot, written_field}, FurtherKinds.defined_slot}
+use Rattle.pc_core.specs.{declared.nodes.Node.Node, declared.nodes.NodeKind.NodeKind, Kinds.{called_name, stored_slot, field_written}, FurtherKinds.defined_slot}
 use Rattle.pc_base.specs.Lists.{Text}
 use Rattle.pc_rules.specs.Parts.{last_child}
 use Rattle.pc_explain_words.specs.Scene.{SceneData, child, noted_type}
@@ -66,7 +66,7 @@ written_reason st None = called_reason st (called_name st.at.kind)
 
 abbrev pub reason_of_stop : StopData → Text
 reason_of_stop st =
-    if is_if_node st.at.kind then said st BRANCHES.now (fill.PartType 1 ∷ fill.PartType 2 ∷ []) else written_reason st (written_field st.at.kind)
+    if is_if_node st.at.kind then said st BRANCHES.now (fill.PartType 1 ∷ fill.PartType 2 ∷ []) else written_reason st (field_written st.at.kind)
 
 -- The reason of a node that makes no step, as a node of its own.
 abbrev pub own_reason_of : SceneData → ℕ → Option Node → Text

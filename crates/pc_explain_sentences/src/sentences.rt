@@ -39,14 +39,14 @@ fn push_of_form(
 }
 
 // Appends a sentence about a part and its entity.
-fn push_of_entity(
+fn push_about_entity(
     alloc: Global,
     out: &mut Vec<u8>,
     stop: &Stop,
     sentence: &[u8],
     index: usize,
 ) -> Result<(), AllocError>
-    ensures { OnOk result (out.new.items ≡ out.old.items ++ spec.of_entity stop.now sentence.now index) }
+    ensures { OnOk result (out.new.items ≡ out.old.items ++ spec.about_entity stop.now sentence.now index) }
 {
     push_filled(
         alloc,
@@ -315,8 +315,8 @@ pub fn push_sentence(
             ];
             push_filled(alloc, out, stop, NOT_JUST, &fills)
         }
-        Condition::Comparable(child) => push_of_entity(alloc, out, stop, COMPARED, child),
-        Condition::Printable(child) => push_of_entity(alloc, out, stop, PRINTED, child),
+        Condition::Comparable(child) => push_about_entity(alloc, out, stop, COMPARED, child),
+        Condition::Printable(child) => push_about_entity(alloc, out, stop, PRINTED, child),
         Condition::Readable(child) => push_of_form(alloc, out, stop, UNREADABLE, child),
         Condition::Live(slot) => push_not_live(alloc, out, stop, slot),
         Condition::Reached(slot) => {

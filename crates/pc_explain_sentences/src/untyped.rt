@@ -160,7 +160,7 @@ fn push_reason_of(alloc: Global, out: &mut Vec<u8>, stop: &Stop) -> Result<(), A
         let branches = [Fill::PartType(1), Fill::PartType(2)];
         push_filled(alloc, out, stop, BRANCHES, &branches)
     } else {
-        push_written_reason(alloc, out, stop, kind.written_field())
+        push_written_reason(alloc, out, stop, kind.field_written())
     }
 }
 

@@ -6,12 +6,12 @@ use borrow.Author.Tests.{ltb-true}
 use Rattle.pc_tree.specs.declared.kinds.Op.{Op}
 use Rattle.pc_tree.specs.declared.kinds.Op.TheVariants as op
 use Rattle.pc_heap.specs.{Objects.{next_address, Object}, declared.value.Address.Address, declared.value.Value.Value, declared.value.Value.TheVariants.{Num, Truth, Text, Prim, At}}
-use Rattle.pc_core.specs.{CoreData.{CoreData, field_named, method_named}, declared.declarations.Method.Method, declared.declarations.MethodKind.MethodKind, declared.kinds.Connective.Connective, declared.kinds.Operation.Operation, declared.nodes.Node.Node, declared.nodes.NodeKind.NodeKind, Kinds.{read_field, written_field, stored_slot, called_name, operation, connective}}
+use Rattle.pc_core.specs.{CoreData.{CoreData, field_named, method_named}, declared.declarations.Method.Method, declared.declarations.MethodKind.MethodKind, declared.kinds.Connective.Connective, declared.kinds.Operation.Operation, declared.nodes.Node.Node, declared.nodes.NodeKind.NodeKind, Kinds.{field_read, field_written, stored_slot, called_name, applied_operation, connective}}
 use Rattle.pc_core.specs.declared.kinds.Connective.TheVariants as joins
 use Rattle.pc_core.specs.declared.kinds.Operation.TheVariants as applies
 use Rattle.pc_core.specs.declared.declarations.MethodKind.TheVariants as method
 use Rattle.pc_core.specs.declared.nodes.NodeKind.TheVariants as node
-use Rattle.pc_semantics.specs.{declared.frames.Frame.Frame, declared.frames.Task.Task, Configurations.{Around, Move, Goes, Writes, Makes, Spawns, Sends, Leaves, given, pop, popped, value_entity, blank_object}, Parts.{with_top, with_popped, number_of_fields, begin_new, make_of, spawn_of, enter, send, push_text, invoke_found, invoke_method, invoke_on, leave_object, return_task, get_value, get_field, get_of, get_from, put_value, put_field, put_of, put_into, push_slot, take_slot, evaluate_node, push_or_lack, negated, compared}, Calls.{counted, make_task, spawn_task, invoke_kind, text_of, is_string, invoke_task, leave, get_task, put_task, store, store_task}, Evaluation.{Way, Reads, Takes, FirstThen, way_of, first_then, by_way, truth, applied, apply_task, right_side, decided, test_task, branch, loop_turn, of_numbers, of_truths, of_texts, binary}, Step.task_move}
+use Rattle.pc_semantics.specs.{declared.frames.Frame.Frame, declared.frames.Task.Task, Configurations.{Around, Move, Goes, Writes, Makes, Spawns, Sends, Leaves, given, pop, popped, value_entity, blank_object}, Parts.{with_top, with_popped, number_of_fields, begin_new, make_of, spawn_of, enter, send, push_text, invoke_found, invoke_method, invoke_on, leave_object, return_task, get_value, get_field, get_of, get_from, put_value, put_field, put_of, put_into, push_slot, take_slot, evaluate_node, push_or_lack, negated, compared}, Calls.{counted, make_task, spawn_task, invoke_kind, text_of, is_string, invoke_task, leave, get_task, put_task, store, store_task}, Evaluation.{Way, Copies, Takes, FirstThen, way_of, first_then, by_way, truth, applied, apply_task, right_side, decided, test_task, branch, loop_turn, of_numbers, of_truths, of_texts, binary}, Step.task_move}
 use Rattle.pc_semantics.specs.declared.frames.Task.TheVariants as task
 use Rattle.pc_semantics.specs.declared.outcome.Lack.TheVariants as lack
 use Rattle.pc_tasks.specs.{Fielded.HasFields, Inside.{first_move, relieved}}
@@ -65,7 +65,7 @@ module _ (core : CoreData) (around : Around) where
   first f (c ∷ cs) ts = tt
 
   way : (f : Frame) (cs : List ℕ) (w : Way) → Allowed core around (by_way f cs w)
-  way f cs (Reads s) = slot f (slice_get f.slots s)
+  way f cs (Copies s) = slot f (slice_get f.slots s)
   way f cs (Takes s) = taken f s (slice_get f.slots s)
   way f cs (FirstThen ts) = first f cs ts
   way f cs w = tt
@@ -81,13 +81,13 @@ module _ (core : CoreData) (around : Around) where
   value_read f (Some None) = tt
   value_read f (Some (Some v)) = tt
 
-  field_read : (f : Frame) (o : Object) (i : Option ℕ) → Allowed core around (get_field f o i)
-  field_read f o None = tt
-  field_read f o (Some i) = value_read f (slice_get o.fields i)
+  place_read : (f : Frame) (o : Object) (i : Option ℕ) → Allowed core around (get_field f o i)
+  place_read f o None = tt
+  place_read f o (Some i) = value_read f (slice_get o.fields i)
 
   object_read : (f : Frame) (name : ℕ) (o : Option Object) → Allowed core around (get_of core f name o)
   object_read f name None = tt
-  object_read f name (Some o) = field_read f o (field_named core o.entity name)
+  object_read f name (Some o) = place_read f o (field_named core o.entity name)
 
   read : (name : ℕ) (v : Value) (f : Frame) → Allowed core around (get_from core around name v f)
   read name (At a) f = object_read f name (get around.objects a)
@@ -116,10 +116,10 @@ module _ (core : CoreData) (around : Around) where
   put name (Prim e) v f = tt
 
   get_allowed : (f : Frame) (k : NodeKind) → Allowed core around (get_task core around f k)
-  get_allowed f k = at (read_field k) _ (λ name. top f f.stack _ (read name))
+  get_allowed f k = at (field_read k) _ (λ name. top f f.stack _ (read name))
 
   put_allowed : (f : Frame) (k : NodeKind) → Allowed core around (put_task core around f k)
-  put_allowed f k = at (written_field k) _ (λ name. top f f.stack _ (λ o g. top g g.stack _ (put name o)))
+  put_allowed f k = at (field_written k) _ (λ name. top f f.stack _ (λ o g. top g g.stack _ (put name o)))
 
   store_allowed : (f : Frame) (k : NodeKind) → Allowed core around (store_task f k)
   store_allowed f k = at (stored_slot k) _ (λ s. top f f.stack (store s) (λ v g. tt))
@@ -155,7 +155,7 @@ module _ (core : CoreData) (around : Around) where
   operator f applies.Not = top f f.stack _ (λ v g. not_allowed g v)
 
   apply_allowed : (f : Frame) (k : NodeKind) → Allowed core around (apply_task f k)
-  apply_allowed f k = at (operation k) _ (operator f)
+  apply_allowed f k = at (applied_operation k) _ (operator f)
 
   -- ---- choices
 

@@ -26,12 +26,12 @@ fn touched_name(core: &Core, task: Task) -> Option<(u32, bool)>
     match task {
         Task::Get(number) => {
             let node = core.node_at(number)?;
-            let name = node.kind.read_field()?;
+            let name = node.kind.field_read()?;
             Some((name, false))
         }
         Task::Put(number) => {
             let node = core.node_at(number)?;
-            let name = node.kind.written_field()?;
+            let name = node.kind.field_written()?;
             Some((name, true))
         }
         Task::Eval(_)

@@ -4,7 +4,7 @@ use Rattle.std.proofs.{Common.{inl, inr, ap, sym, subst, ◌∙◌}, lemmas.Opti
 use Rattle.pc_heap.specs.{Objects.{ObjectMap, class_at}, declared.value.Value.Value, declared.value.Value.TheVariants.At}
 use Rattle.pc_caps.specs.declared.capability.Form.{Form}
 use Rattle.pc_caps.specs.declared.capability.Form.TheVariants as form
-use Rattle.pc_core.specs.{declared.nodes.Node.Node, declared.declarations.MethodKind.MethodKind, declared.declarations.ParamInfo.ParamInfo, CoreData.{field_named, CoreData}, Kinds.read_field}
+use Rattle.pc_core.specs.{declared.nodes.Node.Node, declared.declarations.MethodKind.MethodKind, declared.declarations.ParamInfo.ParamInfo, CoreData.{field_named, CoreData}, Kinds.field_read}
 use Rattle.pc_rules.specs.Parts.{type_of}
 use Rattle.pc_valid.specs.Words.{Ty}
 use Rattle.pc_core.specs.declared.declarations.MethodKind.TheVariants as method
@@ -57,7 +57,7 @@ module _ (core : CoreData) (ann : Ann) (needs : Needs core ann) (c : Configurati
     task_access : (t : Task) (ts : List Task) → f.tasks ≡ t ∷ ts → (n : ℕ × Bool) → touched_name core t ≡ Some n → (x : Access) → access_of core c f n ≡ Some x → AccessOk w i x
     task_access (task.Get n) ts at p e x h =
         let y = bind_some (slice_get core.nodes n) _ p e in
-        let m = bind_some (read_field y.0.kind) _ p y.2 in
+        let m = bind_some (field_read y.0.kind) _ p y.2 in
         let reads : p.1 ≡ false = sym (ap (λ (q : ℕ × Bool). q.1) (same_Some _ p m.2)) in
         let t = touches core c f p x h in
         elim (get_access core ann needs (around c i) f fs (record { objects = typed.objects; here = get_below c.actors i a is; held = ok.0.0; wait = ok.1 }) w n x.address t.rest t.at ts

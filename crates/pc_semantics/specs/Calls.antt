@@ -1,7 +1,7 @@
 -- Fields and slots; constructors, calls, messages and the end of a method.
 use Rattle.std.specs.{Prelude.{ℕ, Option, Some, None, slice_get, ◌-◌, Bool, false, ◌&&◌, List, [], ◌∷◌, length, nat_eq, nat_lt, codes, decimal, option_map, unwrap_or, if◌then◌else◌}, Str.bytes_eq, Option.{option_flatten, option_map_or}}
 use Rattle.pc_heap.specs.{Objects.next_address, declared.value.Value.Value, declared.value.Value.TheVariants.{At, Num, Truth, Text}}
-use Rattle.pc_core.specs.{CoreData.{field_named, CoreData, method_named}, declared.nodes.NodeKind.NodeKind, Kinds.{read_field, written_field, stored_slot, called_name}, declared.declarations.Method.Method, declared.declarations.MethodKind.MethodKind}
+use Rattle.pc_core.specs.{CoreData.{field_named, CoreData, method_named}, declared.nodes.NodeKind.NodeKind, Kinds.{field_read, field_written, stored_slot, called_name}, declared.declarations.Method.Method, declared.declarations.MethodKind.MethodKind}
 use Rattle.pc_base.specs.Lists.{◌>>=◌}
 use Rattle.pc_semantics.specs.{declared.frames.Frame.Frame, Configurations.{Around, Move, Stuck, Goes, Writes, Makes, Spawns, Enters, Sends, Leaves, given, pushed, with_slot, slot_value, first_frame, push_value, pop, pop_arguments, none, value_entity, address_of, with_object, own_address, blank_object}}
 use Rattle.pc_core.specs.declared.nodes.NodeKind.TheVariants as node
@@ -13,13 +13,13 @@ use Rattle.pc_core.specs.declared.declarations.MethodKind.TheVariants as method
 -- Get: the origin is replaced by the field's value.
 abbrev pub get_task : CoreData → Around → Frame → NodeKind → Move
 get_task core around f k =
-    given lack.Value (read_field k) λ name. pop f λ v g. with_object around v λ a o.
+    given lack.Value (field_read k) λ name. pop f λ v g. with_object around v λ a o.
     push_value g lack.Field (option_flatten (field_named core o.entity name >>= slice_get o.fields))
 
 -- Put: the origin and the value are replaced by the field's old value, or None; and the field is set.
 abbrev pub put_task : CoreData → Around → Frame → NodeKind → Move
 put_task core around f k =
-    given lack.Value (written_field k) λ name. pop f λ v g. pop g λ w h. with_object around v λ a o.
+    given lack.Value (field_written k) λ name. pop f λ v g. pop g λ w h. with_object around v λ a o.
     given lack.Field (field_named core o.entity name) λ i.
     given lack.Field (slice_get o.fields i) λ old. Writes a i w (pushed h (unwrap_or old none))
 

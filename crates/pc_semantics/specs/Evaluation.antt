@@ -3,7 +3,7 @@ use Rattle.std.specs.{Prelude.{ℕ, ◌+◌, ◌-◌, ◌*◌, ◌/◌, ◌%◌,
 use Rattle.pc_base.specs.Limits.{text_limit}
 use Rattle.pc_tree.specs.declared.kinds.Op.{Op}
 use Rattle.pc_heap.specs.{declared.value.Value.Value, declared.value.Value.TheVariants.{Num, Truth, Text, Prim, At}}
-use Rattle.pc_core.specs.{declared.kinds.Operation.Operation, declared.kinds.Connective.Connective, declared.nodes.NodeKind.NodeKind, Kinds.{operation, connective}}
+use Rattle.pc_core.specs.{declared.kinds.Operation.Operation, declared.kinds.Connective.Connective, declared.nodes.NodeKind.NodeKind, Kinds.{applied_operation, connective}}
 use Rattle.pc_semantics.specs.{declared.frames.Task.Task, declared.frames.Frame.Frame, Configurations.{Move, Stuck, Overflows, Goes, pushed, with_slot, slot_value, doing, given, push_value, pop, none}, Children.evaluations}
 use Rattle.pc_tree.specs.declared.kinds.Op.TheVariants as op
 use Rattle.pc_core.specs.declared.kinds.Connective.TheVariants as joins
@@ -14,11 +14,11 @@ use Rattle.pc_semantics.specs.declared.outcome.Lack.TheVariants as lack
 
 -- ---- Eval
 
--- How a node is evaluated: to a value; to that of a slot, which is left there or taken; all children and then a task; the
+-- How a node is evaluated: to a value; to that of a slot, which is copied or taken; all children and then a task; the
 -- first child and then tasks; or the items of a sequence, of which every value but the last is dropped.
 pub data Way : Type 0 where
   Gives : Value → Way
-  Reads : ℕ → Way
+  Copies : ℕ → Way
   Takes : ℕ → Way
   AllThen : Task → Way
   FirstThen : List Task → Way
@@ -30,8 +30,8 @@ way_of n (node.Number k) = Gives (Num k)
 way_of n (node.Truth b) = Gives (Truth b)
 way_of n (node.Text t) = Gives (Text t)
 way_of n (node.Prim e) = Gives (Prim e)
-way_of n node.This = Reads 0
-way_of n (node.Local s) = Reads s
+way_of n node.This = Copies 0
+way_of n (node.Local s) = Copies s
 way_of n (node.Consume s) = Takes s
 way_of n (node.Field name) = AllThen (task.Get n)
 way_of n (node.SetField name) = AllThen (task.Put n)
@@ -62,7 +62,7 @@ item_tasks (c ∷ d ∷ children) = task.Eval c ∷ task.Discard ∷ item_tasks 
 
 abbrev pub by_way : Frame → List ℕ → Way → Move
 by_way f cs (Gives v) = Goes (pushed f v)
-by_way f cs (Reads s) = push_value f lack.Slot (slot_value f s)
+by_way f cs (Copies s) = push_value f lack.Slot (slot_value f s)
 by_way f cs (Takes s) = given lack.Slot (slot_value f s) λ v. Goes (pushed (with_slot f s None) v)
 by_way f cs (AllThen t) = Goes (doing f (evaluations cs ++ t ∷ []))
 by_way f cs (FirstThen ts) = first_then f cs ts
@@ -131,7 +131,7 @@ applied f (applies.Same b) = pop f λ w g. pop g λ v h. Goes (pushed h (Truth (
 applied f applies.Not = pop f (truth λ b g. Goes (pushed g (Truth (not b))))
 
 abbrev pub apply_task : Frame → NodeKind → Move
-apply_task f k = given lack.Value (operation k) (applied f)
+apply_task f k = given lack.Value (applied_operation k) (applied f)
 
 -- ---- Test, Branch and Loop
 

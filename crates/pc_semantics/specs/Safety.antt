@@ -3,7 +3,7 @@
 use Rattle.std.specs.Prelude.{◌≡◌, ◌≢◌, ◌⊎◌, ℕ, Bool, true, false, List, length, Option, Some, None, slice_get}
 use Rattle.pc_heap.specs.{Objects.class_at, declared.value.Address.Address, declared.value.Value.Value}
 use Rattle.pc_caps.specs.Tables.{sendable}
-use Rattle.pc_core.specs.{CoreData.{field_named, CoreData}, declared.declarations.Method.Method, declared.declarations.ParamInfo.ParamInfo, Kinds.{read_field, written_field}}
+use Rattle.pc_core.specs.{CoreData.{field_named, CoreData}, declared.declarations.Method.Method, declared.declarations.ParamInfo.ParamInfo, Kinds.{field_read, field_written}}
 use Rattle.pc_base.specs.Lists.{Each, ◌>>=◌}
 use Rattle.pc_semantics.specs.{declared.access.Access.Access, declared.frames.Frame.Frame, declared.frames.Task.Task, declared.mailbox.Message.Message, declared.outcome.Lack.Lack, declared.outcome.Outcome.TheVariants.Lacks, Configurations.{Configuration, address_of, own_address}, Step.{step, after}}
 use Rattle.pc_caps.specs.declared.capability.Cap.TheVariants as cap
@@ -11,8 +11,8 @@ use Rattle.pc_semantics.specs.declared.frames.Task.TheVariants as task
 
 -- The name of the field that a task reads or writes, and whether it writes.
 abbrev pub touched_name : CoreData → Task → Option (ℕ × Bool)
-touched_name core (task.Get n) = do x ← slice_get core.nodes n; name ← read_field x.kind; Some (name, false)
-touched_name core (task.Put n) = do x ← slice_get core.nodes n; name ← written_field x.kind; Some (name, true)
+touched_name core (task.Get n) = do x ← slice_get core.nodes n; name ← field_read x.kind; Some (name, false)
+touched_name core (task.Put n) = do x ← slice_get core.nodes n; name ← field_written x.kind; Some (name, true)
 touched_name core t = None
 
 -- The field of the object on top of the stack.

@@ -5,13 +5,13 @@ use Rattle.pc_base.proofs.{Gets.get_within, Options.bind_is}
 use Rattle.pc_heap.specs.{Objects.{ObjectMap, Object}, declared.value.Address.Address, declared.value.Value.Value, declared.value.Value.TheVariants.{Num, Truth, Text, Prim, At}}
 use Rattle.pc_tree.specs.declared.kinds.Op.{Op}
 use Rattle.pc_tree.specs.declared.kinds.Op.TheVariants as op
-use Rattle.pc_core.specs.{declared.declarations.Method.Method, declared.declarations.MethodKind.MethodKind, declared.kinds.Connective.Connective, declared.kinds.Operation.Operation, declared.nodes.Node.Node, declared.nodes.NodeKind.NodeKind, CoreData.{CoreData, method_named}, Kinds.{read_field, written_field, stored_slot, operation, connective}, Nodes.HasArity, Formed.Formed}
+use Rattle.pc_core.specs.{declared.declarations.Method.Method, declared.declarations.MethodKind.MethodKind, declared.kinds.Connective.Connective, declared.kinds.Operation.Operation, declared.nodes.Node.Node, declared.nodes.NodeKind.NodeKind, CoreData.{CoreData, method_named}, Kinds.{field_read, field_written, stored_slot, applied_operation, connective}, Nodes.HasArity, Formed.Formed}
 use Rattle.pc_core.specs.declared.declarations.MethodKind.TheVariants as method
 use Rattle.pc_core.specs.declared.kinds.Connective.TheVariants as joins
 use Rattle.pc_core.specs.declared.kinds.Operation.TheVariants as applies
 use Rattle.pc_core.specs.declared.nodes.NodeKind.TheVariants as node
 use Rattle.pc_base.specs.{Lists.Each, Limits.text_limit}
-use Rattle.pc_semantics.specs.{declared.frames.Frame.Frame, declared.frames.Task.Task, declared.mailbox.Message.Message, Configurations.{own_address, blank_object, Around, Move, Stuck, Overflows, Goes, Spawns, Sends, Leaves, given, with_stack, pushed, none, popped}, Children.evaluations, Parts.{push_slot, take_slot, evaluate_node, get_value, get_field, get_of, get_from, put_value, put_field, put_of, put_into, begin_new, make_of, spawn_of, enter, send, push_text, invoke_found, invoke_method, invoke_on, leave_object, return_task, push_or_lack, negated, compared, at_node}, Evaluation.{Way, Gives, Reads, Takes, AllThen, FirstThen, Items, way_of, item_tasks, first_then, by_way, truth, applied, apply_task, right_side, decided, test_task, branch, loop_turn, of_numbers, of_truths, of_texts, binary}, Calls.{get_task, put_task, store, store_task, counted, is_string, text_of, make_task, spawn_task, invoke_kind, invoke_task, leave}, Step.task_move}
+use Rattle.pc_semantics.specs.{declared.frames.Frame.Frame, declared.frames.Task.Task, declared.mailbox.Message.Message, Configurations.{own_address, blank_object, Around, Move, Stuck, Overflows, Goes, Spawns, Sends, Leaves, given, with_stack, pushed, none, popped}, Children.evaluations, Parts.{push_slot, take_slot, evaluate_node, get_value, get_field, get_of, get_from, put_value, put_field, put_of, put_into, begin_new, make_of, spawn_of, enter, send, push_text, invoke_found, invoke_method, invoke_on, leave_object, return_task, push_or_lack, negated, compared, at_node}, Evaluation.{Way, Gives, Copies, Takes, AllThen, FirstThen, Items, way_of, item_tasks, first_then, by_way, truth, applied, apply_task, right_side, decided, test_task, branch, loop_turn, of_numbers, of_truths, of_texts, binary}, Calls.{get_task, put_task, store, store_task, counted, is_string, text_of, make_task, spawn_task, invoke_kind, invoke_task, leave}, Step.task_move}
 use Rattle.pc_semantics.specs.declared.frames.Task.TheVariants as task
 use Rattle.pc_semantics.specs.declared.outcome.Lack.TheVariants as lack
 use Rattle.pc_sends.specs.{Held.{receiver_child, call_in, IsNoted}, Tables.{is_called, last_child_of, noted_at, Aims, UsesMethod, IsSent, Posts}}
@@ -66,7 +66,7 @@ module _ (core : CoreData) (ents : List (Option ℕ)) (formed : Formed core) (m 
 
   way_in : (f : Frame) (n : ℕ) (cs : List ℕ) (w : Way) → Of f → Each (λ i c. NodeIn core m c) cs → WayIn n w → In (by_way f cs w)
   way_in f n cs (Gives v) k h l = k
-  way_in f n cs (Reads s) k h l = push_slot_in f (slice_get f.slots s) k
+  way_in f n cs (Copies s) k h l = push_slot_in f (slice_get f.slots s) k
   way_in f n cs (Takes s) k h l = take_slot_in f s (slice_get f.slots s) k
   way_in f n cs (AllThen t) k h l = (k.0, all_in f cs t k h l)
   way_in f n cs (FirstThen ts) k h l = first_in f cs ts k h l
@@ -119,11 +119,11 @@ module _ (core : CoreData) (ents : List (Option ℕ)) (formed : Formed core) (m 
   put_into_in around name (Prim n) v f k = tt
 
   get_task_in : (around : Around) (f : Frame) (x : NodeKind) → Of f → In (get_task core around f x)
-  get_task_in around f x k = given_in (read_field x) _ (λ name. top_in core ents m f f.stack (get_from core around name) k (get_from_in around name))
+  get_task_in around f x k = given_in (field_read x) _ (λ name. top_in core ents m f f.stack (get_from core around name) k (get_from_in around name))
 
   put_task_in : (around : Around) (f : Frame) (x : NodeKind) → Of f → In (put_task core around f x)
   put_task_in around f x k =
-      given_in (written_field x) _ (λ name. top_in core ents m f f.stack _ k (λ o g l. top_in core ents m g g.stack (put_into core around name o) l (put_into_in around name o)))
+      given_in (field_written x) _ (λ name. top_in core ents m f f.stack _ k (λ o g l. top_in core ents m g g.stack (put_into core around name o) l (put_into_in around name o)))
 
   store_task_in : (f : Frame) (x : NodeKind) → Of f → In (store_task f x)
   store_task_in f x k = given_in (stored_slot x) _ (λ s. top_in core ents m f f.stack (store s) k (λ v g l. l))
@@ -159,7 +159,7 @@ module _ (core : CoreData) (ents : List (Option ℕ)) (formed : Formed core) (m 
   applied_in f applies.Not k = top_in core ents m f f.stack _ k (λ v g l. negated_in g v l)
 
   apply_task_in : (f : Frame) (x : NodeKind) → Of f → In (apply_task f x)
-  apply_task_in f x k = given_in (operation x) _ (λ o. applied_in f o k)
+  apply_task_in f x k = given_in (applied_operation x) _ (λ o. applied_in f o k)
 
   -- ---- one way or another
 

@@ -55,7 +55,7 @@ fn get(core: &Core, heap: &Heap, frame: &Frame, number: u32) -> Ahead
     let Some(node) = core.node_at(number) else {
         return Ahead::Lacks;
     };
-    match node.kind.read_field() {
+    match node.kind.field_read() {
         Some(name) => read(core, heap, frame, name),
         None => Ahead::Lacks,
     }
@@ -90,7 +90,7 @@ fn put(core: &Core, heap: &Heap, frame: &Frame, number: u32) -> Ahead
     let Some(node) = core.node_at(number) else {
         return Ahead::Lacks;
     };
-    match node.kind.written_field() {
+    match node.kind.field_written() {
         Some(name) => write(core, heap, frame, name),
         None => Ahead::Lacks,
     }
@@ -213,7 +213,7 @@ fn apply(core: &Core, frame: &Frame, number: u32) -> Ahead
     let Some(node) = core.node_at(number) else {
         return Ahead::Lacks;
     };
-    match node.kind.operation() {
+    match node.kind.applied_operation() {
         Some(Operation::Binary(op)) => apply_binary(frame, op),
         Some(Operation::Same(_)) => apply_same(frame),
         Some(Operation::Not) => apply_not(frame),

@@ -110,7 +110,7 @@ pub fn apply(
     let Some(node) = core.node_at(number) else {
         return Ok(Outcome::Lacks(Lack::Value));
     };
-    match node.kind.operation() {
+    match node.kind.applied_operation() {
         Some(Operation::Binary(op)) => apply_binary(alloc, frame, op),
         Some(Operation::Same(wanted)) => Ok(apply_same(frame, wanted)),
         Some(Operation::Not) => Ok(apply_not(frame)),

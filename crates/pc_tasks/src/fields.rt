@@ -49,7 +49,7 @@ pub fn get(core: &Core, heap: &Heap, frame: &mut Frame, number: u32) -> Result<O
     let Some(node) = core.node_at(number) else {
         return Ok(Outcome::Lacks(Lack::Value));
     };
-    match node.kind.read_field() {
+    match node.kind.field_read() {
         Some(name) => read(core, heap, frame, name),
         None => Ok(Outcome::Lacks(Lack::Value)),
     }
@@ -140,7 +140,7 @@ pub fn put(core: &Core, heap: &mut Heap, frame: &mut Frame, number: u32) -> Outc
     let Some(node) = core.node_at(number) else {
         return Outcome::Lacks(Lack::Value);
     };
-    match node.kind.written_field() {
+    match node.kind.field_written() {
         Some(name) => write(core, heap, frame, name),
         None => Outcome::Lacks(Lack::Value),
     }

@@ -3,7 +3,7 @@
 use Rattle.std.specs.Prelude.{◌≡◌, ◌⊎◌, ℕ, Bool, true, false, List, [], ◌∷◌, Option, Some, None, is_some, slice_get}
 use Rattle.pc_caps.specs.declared.capability.Form.{Form}
 use Rattle.pc_caps.specs.declared.capability.Form.TheVariants as form
-use Rattle.pc_core.specs.{declared.declarations.Method.Method, declared.nodes.Node.Node, declared.nodes.NodeKind.NodeKind, CoreData.CoreData, Kinds.{read_field, written_field, stored_slot, called_name, operation, connective}}
+use Rattle.pc_core.specs.{declared.declarations.Method.Method, declared.nodes.Node.Node, declared.nodes.NodeKind.NodeKind, CoreData.CoreData, Kinds.{field_read, field_written, stored_slot, called_name, applied_operation, connective}}
 use Rattle.pc_core.specs.declared.declarations.MethodKind.TheVariants as method
 use Rattle.pc_core.specs.declared.nodes.NodeKind.TheVariants as nodes
 use Rattle.pc_masks.specs.{declared.mask.Mask.Mask, Masks.IsInMask}
@@ -89,10 +89,10 @@ pub record FinishOk (core : CoreData) (ann : Ann) (m : ℕ) (l s : Mask) (g : Li
   pub follows : Follows core node note below go
 
 abbrev pub reads : NodeKind → Bool
-reads k = is_some (read_field k)
+reads k = is_some (field_read k)
 
 abbrev pub writes : NodeKind → Bool
-writes k = is_some (written_field k)
+writes k = is_some (field_written k)
 
 abbrev pub stores : NodeKind → Bool
 stores k = is_some (stored_slot k)
@@ -109,7 +109,7 @@ abbrev pub invokes : NodeKind → Bool
 invokes k = is_some (called_name k)
 
 abbrev pub applies : NodeKind → Bool
-applies k = is_some (operation k)
+applies k = is_some (applied_operation k)
 
 -- The top of the stack is a truth value.
 abbrev pub TruthOnTop : List Want → List Want → Type 0
