@@ -1,5 +1,5 @@
 -- Why a value has no type.
-use Rattle.std.specs.{Prelude.{ℕ, zero, suc, [], ◌∷◌, ◌++◌, length, Option, Some, None, slice_get, if◌then◌else◌}, Option.is_none}
+use Rattle.std.specs.{Prelude.{ℕ, zero, suc, Bool, true, false, [], ◌∷◌, ◌++◌, length, Option, Some, None, slice_get, if◌then◌else◌}, Option.is_none}
 use Rattle.pc_core.specs.{declared.nodes.Node.Node, declared.nodes.NodeKind.NodeKind, Kinds.{called_name, stored_slot, field_written}, FurtherKinds.defined_slot}
 use Rattle.pc_base.specs.Lists.{Text}
 use Rattle.pc_rules.specs.Parts.{last_child}
