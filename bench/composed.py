@@ -254,7 +254,7 @@ def main_item(genes):
         return Piece(names.entity(genes.classes - 1), 1, 1)
     method = kept_method(genes)
     if genes.main_item == "call" and method:
-        arguments = argument_list(genes, "", "kept")
+        arguments = argument_list(genes, names.trait(genes.traits - 1), "kept")
         return Piece(f"kept.{method}{arguments.text}", 3 + arguments.tokens, 2 + arguments.nodes)
     return NUMBER
 
@@ -325,21 +325,21 @@ def has_fields(genes):
     return genes.fields > 0 and genes.classes > 0 and genes.class_kind != "primitive"
 
 
-def trait_pieces(genes, number):
-    """The pieces of a trait."""
+def trait_pieces(genes, number, traits):
+    """The pieces of the trait with this number among the names of all."""
     names = Names(genes)
-    yield Piece(f"{genes.trait_kind} {names.trait(number)}", 2)
-    yield is_list([names.trait(it) for it in range(number - 1, max(-1, number - 1 - genes.traits_is), -1)])
+    yield Piece(f"{genes.trait_kind} {traits[number]}", 2)
+    yield is_list(traits[max(0, number - genes.traits_is) : number][::-1])
     if number < genes.writers:
         own = [names.trait_method(number, it) for it in range(genes.trait_methods)]
-        yield from methods_of(genes, names.trait(number), own, genes.bodies == "yes", has_fields(genes))
+        yield from methods_of(genes, traits[number], own, genes.bodies == "yes", has_fields(genes))
 
 
-def class_pieces(genes, number):
-    """The pieces of a class."""
+def class_pieces(genes, number, traits):
+    """The pieces of a class; the names of all traits are given."""
     names = Names(genes)
     yield Piece(f"{genes.class_kind} {names.entity(number)}", 2)
-    yield is_list([names.trait(it) for it in range(first_named(genes), genes.traits)])
+    yield is_list(traits[first_named(genes) :])
     if genes.class_kind != "primitive":
         yield from (Piece(f"  var {names.field(it)}: U64 = 0\n", 6, NODES_OF_A_FIELD) for it in range(genes.fields))
         yield from (Piece(f"  new {names.constructor(it)}() => 0\n", 6, NODES_OF_A_BODY) for it in range(genes.constructors))
@@ -370,9 +370,10 @@ def comment_of(genes):
 
 def pieces(genes):
     """The pieces of the source."""
+    traits = [Names(genes).trait(it) for it in range(genes.traits)]
     yield comment_of(genes)
-    yield from itertools.chain.from_iterable(trait_pieces(genes, it) for it in range(genes.traits))
-    yield from itertools.chain.from_iterable(class_pieces(genes, it) for it in range(genes.classes))
+    yield from itertools.chain.from_iterable(trait_pieces(genes, it, traits) for it in range(genes.traits))
+    yield from itertools.chain.from_iterable(class_pieces(genes, it, traits) for it in range(genes.classes))
     yield from main_pieces(genes)
 
 

@@ -353,6 +353,19 @@ def all_before(part):
     yield from main_with(["0"])
 
 
+def traits_below(count, before):
+    """A number of traits after the first, each below so many before it, or below all of them if there are fewer."""
+    for n in range(1, count):
+        yield f"trait T{n} is ({' & '.join(f'T{k}' for k in range(max(0, n - before), n))})\n"
+
+
+@shape("995 traits, each below the 97 before it")
+def many_before(part):
+    yield "trait T0\n  fun m()\n"
+    yield from traits_below(int(part * 995), 97)
+    yield from main_with(["0"])
+
+
 @shape("999 traits in a cycle", WRONG_NAMES)
 def cycle(part):
     count = int(part * 999)
@@ -496,6 +509,34 @@ def interfaces_of_parameters(part):
     of_one = "".join(methods_without_bodies(1, f"({row_of(47, 'I0')})"))
     yield from (f"interface I{n}\n{of_one}" for n in numbered(part, 980))
     yield from main_with(["0"])
+
+
+@shape("980 interfaces of one method with 47 parameters, the last of its own type")
+def interfaces_that_differ_at_the_last(part):
+    for n in numbered(part, 980):
+        yield f"interface I{n}\n  fun m({row_of(46, 'U64')}, b: I{n})\n"
+    yield from main_with(["0"])
+
+
+@shape("495 interfaces of one method with 62 parameters, each of another trait of a chain")
+def interfaces_along_a_chain(part):
+    count = int(part * 495)
+    yield "trait T0\n"
+    yield from (f"trait T{n} is T{n - 1}\n" for n in range(1, count))
+    yield from (f"interface I{n}\n  fun m({row_of(62, f'T{n}')})\n" for n in range(count))
+    yield from main_with(["0"])
+
+
+@shape("80 calls of functions of ten traits, in a body that 900 classes take over")
+def calls_of_many_classes(part):
+    parameters = ", ".join(f"t{n}: T{n} box" for n in range(10))
+    yield "trait T0\n"
+    yield from methods_with_bodies(8)
+    yield f"  fun go({parameters}) =>\n"
+    yield from (f"    t{n}.m{k}()\n" for n in range(10) for k in range(8))
+    yield from (f"trait T{n} is T{n - 1}\n" for n in range(1, 10))
+    yield from classes_below(part, 900, "T9")
+    yield from main_with(["    let c: T9 box = E0\n", f"    c.go({', '.join('c' for _ in range(10))})\n"])
 
 
 # Names as somebody chooses them.
@@ -650,6 +691,99 @@ def bad_name_in_a_trait(part):
 def body_of_nothing(part):
     yield "trait T\n  fun m() =>\n"
     yield from lines(int(part * 190_000), "0")
+    yield from main_with(["0"])
+
+
+# Long names, which would be read once for each entity if they were not read once for each place in the text.
+
+
+def long_name(letter, part, whole):
+    """A name of this part of so many bytes."""
+    return letter + "a" * (int(part * whole) - 1)
+
+
+def classes_below(part, whole, name="T"):
+    """A part of so many classes that name a trait and nothing else."""
+    return (f"class E{n} is {name}\n" for n in numbered(part, whole))
+
+
+@shape("a method with a name of 1,030,000 bytes that 990 classes take over")
+def long_method_of_many_classes(part):
+    yield f"trait T\n  fun {long_name('m', part, 1_030_000)}() => 0\n"
+    yield from classes_below(part, 990)
+    yield from main_with(["0"])
+
+
+@shape("a method with a name of 1,030,000 bytes of an interface that 990 classes take over")
+def long_method_of_an_interface(part):
+    yield f"interface T\n  fun {long_name('m', part, 1_030_000)}() => 0\n"
+    yield from classes_below(part, 990)
+    yield from main_with(["0"])
+
+
+@shape("a method with a name of 1,020,000 bytes of the first of 990 traits in a chain")
+def long_method_above_a_chain(part):
+    yield f"trait T0\n  fun {long_name('m', part, 1_020_000)}()\n"
+    yield from (f"trait T{n + 1} is T{n}\n" for n in numbered(part, 989))
+    yield from main_with(["0"])
+
+
+@shape("ten methods with names of 50,000 bytes of the first of 600 traits, each below the 90 before it")
+def long_methods_above_many_names(part):
+    yield "trait T0\n"
+    yield from (f"  fun {long_name('m', part, 50_000)}{n}()\n" for n in range(10))
+    yield from traits_below(int(part * 600), 90)
+    yield from main_with(["0"])
+
+
+@shape("a parameter with a name of 1,030,000 bytes of a method that 990 classes take over")
+def long_parameter_of_many_classes(part):
+    yield f"trait T\n  fun m({long_name('p', part, 1_030_000)}: U64) => 0\n"
+    yield from classes_below(part, 990)
+    yield from main_with(["0"])
+
+
+@shape("a local with a name of 1,030,000 bytes in a body that 990 classes take over")
+def long_local_of_many_classes(part):
+    yield f"trait T\n  fun m() =>\n    var {long_name('l', part, 1_030_000)}: U64 = 0\n"
+    yield from classes_below(part, 990)
+    yield from main_with(["0"])
+
+
+@shape("62 locals with names of 8,000 bytes, the last of them read 60 times, in a body that 990 classes take over")
+def long_locals_of_many_classes(part):
+    names = [f"{long_name('l', part, 8_000)}{n}" for n in range(62)]
+    yield "trait T\n  fun m() =>\n"
+    yield from (f"    var {name}: U64 = 0\n" for name in names)
+    yield from lines(60, names[-1])
+    yield from classes_below(part, 990)
+    yield from main_with(["0"])
+
+
+@shape("200 reads of a field with a name of 1,500 bytes, in a body that 450 classes with such a field take over")
+def long_field_of_many_classes(part):
+    name = long_name("f", part, 1_500)
+    yield "trait T\n  fun m() =>\n"
+    yield from lines(200, name)
+    yield from (f"class E{n} is T\n  var {name}: U64 = 0\n" for n in numbered(part, 450))
+    yield from main_with(["0"])
+
+
+@shape("95 calls of a method with a name of 10,000 bytes, in a body that 990 classes take over")
+def long_calls_of_many_classes(part):
+    name = long_name("m", part, 10_000)
+    yield f"trait T\n  fun {name}() => 0\n  fun n() =>\n"
+    yield from lines(95, f"{name}()")
+    yield from classes_below(part, 990)
+    yield from main_with(["0"])
+
+
+@shape("95 objects of a class with a name of 10,000 bytes, in a body that 990 classes take over")
+def long_objects_of_many_classes(part):
+    name = long_name("C", part, 10_000)
+    yield f"class {name}\ntrait T\n  fun n() =>\n"
+    yield from lines(95, name)
+    yield from classes_below(part, 990)
     yield from main_with(["0"])
 
 
