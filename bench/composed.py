@@ -287,7 +287,7 @@ def locals_of(genes):
 
 
 def body_of(genes, item, count):
-    """A body with its locals and so many items."""
+    """A body with its locals, and this item `count` times."""
     first, each = locals_of(genes), around(genes, item)
     nodes = first.nodes + count * each.nodes + NODES_OF_A_BODY
     return Piece(first.text + each.text * count, first.tokens + count * each.tokens, nodes)
@@ -382,7 +382,7 @@ def pieces(genes):
 
 @dataclasses.dataclass(frozen=True)
 class Sizes:
-    """The sizes of a source that have limits; of nodes it has at most so many."""
+    """The sizes of a source that have limits. It has no more nodes than this."""
 
     bytes: int
     tokens: int

@@ -37,7 +37,7 @@ def drained(stream):
 
 
 def called(words, seconds, errors=subprocess.DEVNULL):
-    """Calls a program, and stops it after so many seconds of the processor. What it writes is counted."""
+    """Calls a program, and stops it after these seconds of the processor. What it writes is counted."""
 
     def limited():
         resource.setrlimit(resource.RLIMIT_CPU, (seconds, seconds + 1))
@@ -58,7 +58,7 @@ class Seconds:
     slower = 1
 
     def taken(self, words, seconds):
-        """What a call takes that is stopped after so many seconds."""
+        """What a call takes, which is stopped after these seconds."""
         it = called(words, seconds)
         return dataclasses.replace(it, amount=it.seconds)
 
@@ -80,7 +80,7 @@ class Instructions:
         return dataclasses.replace(it, amount=amount, status=it.status if found else None)
 
     def taken(self, words, seconds):
-        """What a call takes that is stopped after so many seconds of its own."""
+        """What a call takes, which is stopped after these seconds of its own."""
         with tempfile.NamedTemporaryFile() as file:
             return self.counted(words, seconds, file.name)
 

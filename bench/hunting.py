@@ -134,7 +134,7 @@ class Hunt:
             self.try_one(command, self.changed(parent.genes, self.kept[command].worst()), parent)
 
     def run(self, minutes):
-        """Hunts for so many minutes of the processor."""
+        """Hunts for these minutes of the processor."""
         end = processor_seconds() + 60 * minutes
         while processor_seconds() < end:
             self.turn()

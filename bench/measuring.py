@@ -104,7 +104,7 @@ class Measuring:
         return dataclasses.replace(it, amount=amount), self.source.stat().st_size
 
     def limit(self, command, written):
-        """What a command may take for a whole source of which it writes so many bytes."""
+        """What a command may take for a whole source, if it writes this number of bytes."""
         writing = TIMES_THE_WRITING * self.for_a_byte * written if command in WRITING else 0
         return max(TIMES_THE_CHECK * self.check, writing) / self.part
 

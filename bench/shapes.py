@@ -354,7 +354,7 @@ def all_before(part):
 
 
 def traits_below(count, before):
-    """A number of traits after the first, each below so many before it, or below all of them if there are fewer."""
+    """A number of traits after the first, each below `before` traits before it, or below all of them if there are fewer."""
     for n in range(1, count):
         yield f"trait T{n} is ({' & '.join(f'T{k}' for k in range(max(0, n - before), n))})\n"
 
@@ -698,12 +698,12 @@ def body_of_nothing(part):
 
 
 def long_name(letter, part, whole):
-    """A name of this part of so many bytes."""
+    """A name of a part of this number of bytes."""
     return letter + "a" * (int(part * whole) - 1)
 
 
 def classes_below(part, whole, name="T"):
-    """A part of so many classes that name a trait and nothing else."""
+    """A part of this number of classes, which name a trait and have nothing else."""
     return (f"class E{n} is {name}\n" for n in numbered(part, whole))
 
 

@@ -1,5 +1,6 @@
 """The descriptions of sources, and the sources that are made of them, against what was written by hand."""
 
+import dataclasses
 import random
 import re
 import unittest
@@ -47,7 +48,7 @@ def text_of(described):
 
 
 def by_chance(seed, count):
-    """So many descriptions that this seed chooses, each changed once."""
+    """A number of descriptions that this seed chooses, each changed once."""
     chance = random.Random(seed)
     for _ in range(count):
         changed, names = genes.mutated(chance, genes.by_chance(chance))
@@ -121,12 +122,16 @@ class ByChance(unittest.TestCase):
                     self.assertLessEqual(sizes.methods, 10_000)
 
     def test_each_gene_changes_a_source(self):
-        changed = set()
-        small = genes.SMALL
+        line = (
+            "traits=3 traits_is=1 writers=2 trait_methods=2 classes=2 classes_is=1 class_methods=2 fields=1 parameters=1 locals=1 "
+            "items=2 item=text main_items=2 text=8 levels=1 trait_name=4 class_name=4 method_name=4 field_name=4 parameter_name=4 local_name=4"
+        )
+        plain, changed = genes.parsed(line), set()
         for name, it in genes.FIELDS.items():
-            others = it.metadata.get("words") or (getattr(small, name) + 1,)
-            changed |= {name for other in others if text_of(fitting.consistent(genes.parsed(genes.line_of(small) + f" {name}={other}"))) != text_of(small)}
-        # A level of comments is there with the first byte, and a limit that may be passed is passed by sizes alone.
+            others = it.metadata.get("words") or (getattr(plain, name) + 1,)
+            texts = {text_of(fitting.consistent(dataclasses.replace(plain, **{name: other}))) for other in others}
+            changed |= {name} if texts != {text_of(plain)} else set()
+        # Which limit may be passed matters for large sizes alone.
         self.assertEqual(set(genes.FIELDS) - changed, {"past"})
 
     def test_a_size_is_filled_up_to_a_limit(self):

@@ -24,7 +24,7 @@ class StandIn:
 
 
 def hunted(seed, turns, held=None):
-    """The hunt after so many turns, and all that it tried."""
+    """The hunt after a number of turns, and all that it tried."""
     stand_in = StandIn()
     hunt = hunting.Hunt(stand_in, random.Random(seed), ["check"], held or {}, lambda found: None)
     for _ in range(turns):
