@@ -36,19 +36,21 @@ def drained(stream):
     return count
 
 
-def called(words, seconds, errors=subprocess.DEVNULL):
-    """Calls a program, and stops it after these seconds of the processor. What it writes is counted."""
+def called(words, seconds, errors=subprocess.DEVNULL, output=subprocess.PIPE):
+    """Calls a program, and stops it after these seconds of the processor. What it writes is counted, unless it goes to a file."""
 
     def limited():
         resource.setrlimit(resource.RLIMIT_CPU, (seconds, seconds + 1))
         resource.setrlimit(resource.RLIMIT_CORE, (0, 0))
 
-    with subprocess.Popen(words, stdin=subprocess.DEVNULL, stdout=subprocess.PIPE, stderr=errors, preexec_fn=limited) as process:
-        written = drained(process.stdout)
+    with subprocess.Popen(words, stdin=subprocess.DEVNULL, stdout=output, stderr=errors, preexec_fn=limited) as process:
+        written = drained(process.stdout) if process.stdout else 0
         _, ended, used = os.wait4(process.pid, 0)
         process.returncode = os.waitstatus_to_exitcode(ended)
-    stopped = process.returncode in (-signal.SIGXCPU, -signal.SIGKILL, 128 + signal.SIGXCPU, 128 + signal.SIGKILL)
-    return Taken(0, used.ru_utime + used.ru_stime, written, None if stopped else process.returncode)
+    taken = used.ru_utime + used.ru_stime
+    # `perf` answers 0 if the command that it counts is stopped.
+    stopped = process.returncode in (-signal.SIGXCPU, -signal.SIGKILL) or taken >= seconds
+    return Taken(0, taken, written, None if stopped else process.returncode)
 
 
 class Seconds:

@@ -5,7 +5,6 @@ import resource
 
 import fitting
 import genes as descriptions
-import measuring
 
 # How many shapes a command keeps, and how many sources are composed by chance before any is changed.
 SHAPES_KEPT = 16
@@ -15,7 +14,7 @@ BEGINNERS = 4
 LARGE = 32
 
 # A source with fewer genes stands for another that takes up to this many times as much.
-AS_BAD = 1.04
+AS_BAD = 1.02
 
 
 def shape_of(genes):
@@ -64,8 +63,8 @@ def processor_seconds():
 class Hunt:
     """The sources that are kept for each command, and what is to be tried next."""
 
-    def __init__(self, measuring_, chance, commands, held, show):
-        self.measuring, self.chance, self.commands, self.held, self.show = measuring_, chance, commands, held, show
+    def __init__(self, measured, chance, commands, held, show):
+        self.measured, self.chance, self.commands, self.held, self.show = measured, chance, commands, held, show
         self.kept = {it: Kept() for it in commands}
         self.next = []
         self.tried = 0
@@ -110,7 +109,7 @@ class Hunt:
 
     def try_one(self, command, genes, parent=None):
         """Measures a command on a source, keeps what was found, and offers a new worst one to the other commands."""
-        found = self.measuring.found(command, genes)
+        found = self.measured.found(command, genes)
         self.tried += 1
         if found is None:
             return
@@ -147,8 +146,3 @@ class Hunt:
 def above(found):
     """Those that are above their limits or have a wrong status; each is an input for `worst`."""
     return [it for it in found if it.times > 1 or it.status != it.wanted]
-
-
-def all_commands():
-    """The commands that a hunt measures."""
-    return list(measuring.COMMANDS)

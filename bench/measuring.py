@@ -3,7 +3,6 @@
 import dataclasses
 import math
 import pathlib
-import subprocess
 
 import composed
 import counting
@@ -30,8 +29,8 @@ LEAST_GROWTH, MOST_GROWTH = 0.5, 3.0
 
 @dataclasses.dataclass(frozen=True)
 class Found:
-    """What a command took for a source: the amount for the whole of it, seconds of the processor for the part that was tried, the
-    bytes of that part, how fast the amount grows with the size, and how many times its limit it is."""
+    """What a command took for a source: the amount and the bytes of the whole of it, seconds of the processor for the part that was
+    tried, how fast the amount grows with the size, how many times its limit it is, and the status, or nothing if it was stopped."""
 
     command: str
     genes: descriptions.Genes
@@ -65,7 +64,8 @@ class Measuring:
         self.schedule.write_text(SCHEDULE, encoding="ascii")
         self.start = self.counter.taken([self.program], self.seconds).amount
         self.write(shapes.program(part))
-        self.check = self.of_part("check").amount - self.start
+        check = self.of_part("check")
+        self.check, self.seconds_of_check = check.amount - self.start, check.seconds
         places = self.of_part("places")
         self.for_a_byte = (places.amount - self.start) / max(1, places.written)
 
@@ -86,12 +86,7 @@ class Measuring:
     def derive(self):
         """Writes the derivation of the source, and says whether there is one."""
         with open(self.derivation, "wb") as file:
-            words = self.words("check")
-            try:
-                ended = subprocess.run(words, stdin=subprocess.DEVNULL, stdout=file, stderr=subprocess.DEVNULL, timeout=60, check=False)
-            except subprocess.TimeoutExpired:
-                return False
-        return ended.returncode == composed.ACCEPTED
+            return counting.called(self.words("check"), self.seconds, output=file).status == composed.ACCEPTED
 
     def tried(self, command, genes, part):
         """What a command takes for this part of a source, without the start of the program; nothing if there is no derivation to
@@ -126,7 +121,10 @@ class Measuring:
         amount = it.amount / self.part**growth
         wanted = composed.status_of(command, descriptions.scaled(genes, self.part))
         times = amount / self.limit(command, it.written)
-        return Found(command, genes, amount, it.seconds, size, growth, times, it.status, wanted)
+        if it.status is None:
+            # What was counted before the call was stopped is less than it takes, and may be nothing.
+            times = max(times, it.seconds / (TIMES_THE_CHECK * self.seconds_of_check))
+        return Found(command, genes, amount, it.seconds, int(size / self.part), growth, times, it.status, wanted)
 
 
 def made(program, kind, folder, part, seconds):
