@@ -1,7 +1,6 @@
-"""The source of a description (`genes.py`), its sizes, and the status of each command on it.
+"""The source of a description (`genes.py`), and the status of each command on it.
 
-A source has traits, then classes, then Main. The pieces of its text come with their numbers of tokens, so that its sizes are
-known without a reading of the text.
+A source has traits, then classes, then Main. The pieces of its text come with their numbers of tokens and nodes (`sizes.py`).
 """
 
 import dataclasses
@@ -15,15 +14,7 @@ NO_TOKENS = 3
 WRONG_NAMES = 4
 LIMIT = 8
 
-BYTES_AT_MOST = 1_048_576
-TOKENS_AT_MOST = 200_000
-ENTITIES_AT_MOST = 1_000
 METHODS_AT_MOST = 10_000
-SLOTS_AT_MOST = 64
-NODES_AT_MOST = 200_000
-
-# The slots of a body besides its parameters and locals: `this`, and in Main `env` and the object that is kept.
-OTHER_SLOTS = 3
 
 # Nodes of a body besides its items, and of a field's value: each at most.
 NODES_OF_A_BODY = 4
@@ -335,14 +326,24 @@ def trait_pieces(genes, number, traits):
         yield from methods_of(genes, traits[number], own, genes.bodies == "yes", has_fields(genes))
 
 
+def field_of(name):
+    """A field with this name."""
+    return Piece(f"  var {name}: U64 = 0\n", 6)
+
+
+def constructor_of(name):
+    """A constructor with this name."""
+    return Piece(f"  new {name}() => 0\n", 6)
+
+
 def class_pieces(genes, number, traits):
     """The pieces of a class; the names of all traits are given."""
     names = Names(genes)
     yield Piece(f"{genes.class_kind} {names.entity(number)}", 2)
     yield is_list(traits[first_named(genes) :])
     if genes.class_kind != "primitive":
-        yield from (Piece(f"  var {names.field(it)}: U64 = 0\n", 6, NODES_OF_A_FIELD) for it in range(genes.fields))
-        yield from (Piece(f"  new {names.constructor(it)}() => 0\n", 6, NODES_OF_A_BODY) for it in range(genes.constructors))
+        yield from (field_of(names.field(it)) for it in range(genes.fields))
+        yield from (constructor_of(names.constructor(it)) for it in range(genes.constructors))
     own = [names.class_method(it) for it in range(genes.class_methods)]
     yield from methods_of(genes, names.entity(number), own, True, has_fields(genes))
 
@@ -377,55 +378,7 @@ def pieces(genes):
     yield from main_pieces(genes)
 
 
-# Sizes.
-
-
-@dataclasses.dataclass(frozen=True)
-class Sizes:
-    """The sizes of a source that have limits. It has no more nodes than this."""
-
-    bytes: int
-    tokens: int
-    methods: int
-    nodes: int
-
-    def excess(self, genes):
-        """How many times the limits the size is that passes its own by most; at most 1 if none does."""
-        methods = 0 if genes.past == "methods" else self.methods / METHODS_AT_MOST
-        return max(self.bytes / BYTES_AT_MOST, self.tokens / TOKENS_AT_MOST, self.nodes / NODES_AT_MOST, methods)
-
-
-def nodes_taken_over(genes):
-    """At most how many nodes are in the bodies that classes take over, and in the constructors and values of their fields."""
-    names = Names(genes)
-    initial = number_of_constructors(genes) * (genes.fields * NODES_OF_A_FIELD + NODES_OF_A_BODY)
-    inside = Inside(names.trait(0), names.method("m", 0), has_fields(genes))
-    body = body_of(genes, plain_item(genes, inside), genes.items)
-    return genes.classes * (initial + taken_over(genes) * body.nodes)
-
-
-def quick_excess(genes):
-    """A part of the excess that is known without the pieces, so that none are made of what is much too large."""
-    methods = genes.writers * genes.trait_methods * bool(genes.traits) + genes.classes * (genes.class_methods + genes.constructors)
-    lists = genes.traits * min(genes.traits, genes.traits_is) + genes.classes * genes.classes_is
-    tokens = 4 * methods * (1 + genes.parameters) + 2 * lists + genes.classes * genes.fields * 6
-    items = (genes.items * (genes.class_methods * genes.classes) + genes.main_items) * (2 * genes.length - 1 + 2 * genes.levels)
-    longest = genes.comment + 4 * genes.comment_levels + methods * genes.method_name + lists * genes.trait_name
-    longest += genes.traits * genes.trait_name + genes.classes * (genes.class_name + genes.fields * genes.field_name)
-    longest += methods * genes.parameters * genes.parameter_name + genes.locals * genes.local_name
-    body = genes.items * max(genes.length * 4, genes.text * (genes.item == "text"), genes.local_name * (genes.item == "local"))
-    longest += max(body, genes.main_items * genes.text * (genes.main_item == "text"))
-    return max((tokens + items) / TOKENS_AT_MOST, longest / BYTES_AT_MOST)
-
-
-def sizes_of(genes):
-    """The sizes of a source."""
-    in_text = tokens = nodes = 0
-    for piece in pieces(genes):
-        in_text += len(piece.text)
-        tokens += piece.tokens
-        nodes += piece.nodes
-    return Sizes(in_text, tokens, number_of_methods(genes), nodes + nodes_taken_over(genes))
+# Statuses.
 
 
 def checked(genes):

@@ -4,6 +4,7 @@ import dataclasses
 
 import composed
 import genes as descriptions
+import sizes
 
 # Tries to make a description smaller, and steps to make it larger.
 TRIES = 200
@@ -12,15 +13,15 @@ STEPS = 6
 
 def in_bounds(genes):
     """The description with no more traits, methods and slots in one place than there may be."""
-    traits = min(genes.traits, composed.ENTITIES_AT_MOST - 1 - min(genes.classes, 1))
+    traits = min(genes.traits, sizes.ENTITIES_AT_MOST - 1 - min(genes.classes, 1))
     return dataclasses.replace(
         genes,
         traits=traits,
-        classes=min(genes.classes, composed.ENTITIES_AT_MOST - 1 - traits),
+        classes=min(genes.classes, sizes.ENTITIES_AT_MOST - 1 - traits),
         traits_is=min(genes.traits_is, max(0, traits - 1)),
         classes_is=min(genes.classes_is, traits),
         writers=max(1, min(genes.writers, traits)),
-        locals=min(genes.locals, composed.SLOTS_AT_MOST - composed.OTHER_SLOTS - genes.parameters),
+        locals=min(genes.locals, sizes.SLOTS_AT_MOST - sizes.OTHER_SLOTS - genes.parameters),
     )
 
 
@@ -80,12 +81,6 @@ def consistent(genes):
     return without_idle(with_bodies(with_fitting_types(in_bounds(genes))))
 
 
-def excess(genes):
-    """How many times its limit the largest size of a source is. It is estimated if that is much more than one."""
-    estimated = composed.quick_excess(genes)
-    return estimated if estimated > 2 else composed.sizes_of(genes).excess(genes)
-
-
 def smaller(chance, genes, kept):
     """The description with one size that is not among the kept ones made smaller; nothing if there is none to make smaller."""
     names = [it for it in descriptions.SIZES if it not in kept and getattr(genes, it) > descriptions.FIELDS[it].metadata["least"]]
@@ -100,7 +95,7 @@ def fitted(chance, genes, kept=()):
     """A consistent description within the limits. The sizes that are not kept are made smaller first."""
     for count in range(TRIES):
         genes = consistent(genes)
-        if excess(genes) <= 1:
+        if sizes.excess(genes) <= 1:
             return genes
         genes = smaller(chance, genes, kept if count < TRIES / 2 else ()) or smaller(chance, genes, ())
     return descriptions.Genes()
@@ -113,7 +108,7 @@ def filled(chance, genes, held=()):
     for _ in range(STEPS):
         middle = min(high, int((low * high) ** 0.5) + 1)
         tried = consistent(dataclasses.replace(genes, **{name: middle}))
-        if getattr(tried, name) == middle and excess(tried) <= 1:
+        if getattr(tried, name) == middle and sizes.excess(tried) <= 1:
             low, genes = middle, tried
         else:
             high = max(low, middle - 1)

@@ -6,9 +6,12 @@ import resource
 import fitting
 import genes as descriptions
 
-# How many shapes a command keeps, and how many sources are composed by chance before any is changed.
+# How many shapes a command keeps in each way, and how many sources are composed by chance before any is changed.
 SHAPES_KEPT = 16
-BEGINNERS = 4
+BEGINNERS = 6
+
+# Of a shorter source the time for each byte says little.
+BYTES_AT_LEAST = 1_000
 
 # A size from which it is a part of a source's shape.
 LARGE = 32
@@ -28,30 +31,44 @@ def changes(genes):
 
 
 class Kept:
-    """The worst source of each shape for one command."""
+    """The worst sources of one command: of each shape the one that takes most, and the one that takes most for each byte. The first
+    are what a hunt looks for. The second lead to it: of a small source one sees what grows with the product of two sizes, and a large
+    one is as slow as others that are only large."""
 
     def __init__(self):
-        self.by_shape = {}
+        self.by_amount, self.by_byte = {}, {}
 
     def worst(self):
-        """All that are kept, the worst first."""
-        return sorted(self.by_shape.values(), key=lambda it: -it.times)
+        """Those that take most, the worst first."""
+        return sorted(self.by_amount.values(), key=lambda it: -it.times)
+
+    def densest(self):
+        """Those that take most for each byte, the worst first."""
+        return sorted(self.by_byte.values(), key=lambda it: -it.density())
 
     def add(self, found):
-        """Keeps a source if it is the worst of its shape, and says whether it is the worst of all."""
-        shape, before = shape_of(found.genes), max((it.times for it in self.by_shape.values()), default=0)
-        old = self.by_shape.get(shape)
-        if old is None or found.times > old.times:
-            self.by_shape[shape] = found
-        for it in self.worst()[SHAPES_KEPT:]:
-            del self.by_shape[shape_of(it.genes)]
-        return found.times > before
+        """Keeps a source if it is the worst of its shape in one way, and says whether it takes most of all."""
+        is_worst = all(found.times > it.times for it in self.by_amount.values())
+        keep(self.by_amount, found, lambda it: it.times)
+        if found.bytes >= BYTES_AT_LEAST:
+            keep(self.by_byte, found, lambda it: it.density())
+        return is_worst
 
     def replace(self, old, new):
         """Keeps a source in the place of one that has more genes and is hardly worse."""
-        if self.by_shape.get(shape_of(old.genes)) is old:
-            del self.by_shape[shape_of(old.genes)]
+        for kept in (self.by_amount, self.by_byte):
+            if kept.get(shape_of(old.genes)) is old:
+                del kept[shape_of(old.genes)]
         self.add(new)
+
+
+def keep(kept, found, value):
+    """Keeps a source if it has the greatest value of its shape, and of all shapes those with the greatest values."""
+    old = kept.get(shape_of(found.genes))
+    if old is None or value(found) > value(old):
+        kept[shape_of(found.genes)] = found
+    for shape in sorted(kept, key=lambda it: -value(kept[it]))[SHAPES_KEPT:]:
+        del kept[shape]
 
 
 def processor_seconds():
@@ -102,10 +119,11 @@ class Hunt:
 
     def parent(self, command):
         """One of the sources that are kept for a command, more often a bad one; nothing as long as there are few."""
-        worst = self.kept[command].worst()
-        if len(worst) < BEGINNERS:
+        kept = self.kept[command]
+        some = kept.worst() if self.chance.random() < 0.5 else kept.densest()
+        if len(kept.by_amount) < BEGINNERS or not some:
             return None
-        return worst[min(int(self.chance.expovariate(0.3)), len(worst) - 1)]
+        return some[min(int(self.chance.expovariate(0.3)), len(some) - 1)]
 
     def try_one(self, command, genes, parent=None):
         """Measures a command on a source, keeps what was found, and offers a new worst one to the other commands."""

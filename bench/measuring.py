@@ -42,10 +42,14 @@ class Found:
     status: int | None
     wanted: int
 
+    def density(self):
+        """The amount for each byte."""
+        return self.amount / self.bytes
+
     def shown(self, unit):
         """A line of the table."""
         amount = f"{self.amount / 1e6:,.0f} M {unit}" if unit == "instructions" else f"{self.amount:.2f} s"
-        each = f"{self.amount / self.bytes:,.0f}" if unit == "instructions" else f"{self.amount / self.bytes * 1e9:,.0f} ns"
+        each = f"{self.density():,.0f}" if unit == "instructions" else f"{self.density() * 1e9:,.0f} ns"
         note = "  STOPPED" if self.status is None else "" if self.status == self.wanted else f"  WRONG: {self.status}, not {self.wanted}"
         return (
             f"{self.command:<8}{self.times:>7.2f} times the limit{amount:>24}{each:>12} a byte{self.bytes:>10} bytes"

@@ -11,6 +11,7 @@ import unittest
 import composed
 import fitting
 import genes
+import sizes
 
 TOP = pathlib.Path(__file__).resolve().parents[2]
 
@@ -34,7 +35,7 @@ def small(seed):
     while True:
         changed, _ = genes.mutated(chance, genes.by_chance(chance))
         described = genes.scaled(fitting.fitted(chance, changed), PART)
-        if composed.sizes_of(described).bytes <= BYTES_AT_MOST:
+        if sizes.sizes_of(described).bytes <= BYTES_AT_MOST:
             yield described
 
 

@@ -8,6 +8,7 @@ import unittest
 import composed
 import fitting
 import genes
+import sizes
 
 # A source that has each part, and its text, written by hand.
 LINE = (
@@ -112,14 +113,14 @@ class ByChance(unittest.TestCase):
     def test_sizes_are_within_the_limits_and_are_those_of_the_text(self):
         for described in by_chance(1, SOURCES):
             with self.subTest(genes.line_of(described)):
-                sizes = composed.sizes_of(described)
+                found = sizes.sizes_of(described)
                 text = text_of(described)
-                self.assertEqual(sizes.bytes, len(text))
-                self.assertEqual(sizes.tokens, len(TOKEN.findall(COMMENT.sub("", text))))
-                self.assertLessEqual(max(sizes.bytes / 1_048_576, sizes.tokens / 200_000, sizes.nodes / 200_000), 1)
+                self.assertEqual(found.bytes, len(text))
+                self.assertEqual(found.tokens, len(TOKEN.findall(COMMENT.sub("", text))))
+                self.assertLessEqual(max(found.bytes / 1_048_576, found.tokens / 200_000, found.nodes / 200_000), 1)
                 self.assertLessEqual(described.traits + described.classes + 1, 1_000)
                 if described.past == "none":
-                    self.assertLessEqual(sizes.methods, 10_000)
+                    self.assertLessEqual(found.methods, 10_000)
 
     def test_each_gene_changes_a_source(self):
         line = (
@@ -138,4 +139,4 @@ class ByChance(unittest.TestCase):
         chance = random.Random(2)
         filled = fitting.filled(chance, genes.Genes(main_items=2))
         self.assertGreater(filled.main_items, 150_000)
-        self.assertLessEqual(composed.sizes_of(filled).excess(filled), 1)
+        self.assertLessEqual(sizes.sizes_of(filled).excess(filled), 1)

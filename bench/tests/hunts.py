@@ -7,6 +7,7 @@ import composed
 import genes
 import hunting
 import measuring
+import sizes
 
 
 class StandIn:
@@ -18,7 +19,7 @@ class StandIn:
     def found(self, command, described):
         """What a command takes."""
         self.sources.append(described)
-        size = composed.sizes_of(described).bytes
+        size = sizes.sizes_of(described).bytes
         amount = size + described.classes * composed.taken_over(described) * described.method_name
         return measuring.Found(command, described, amount, 0.0, size, 1.0, amount / 3e6, 0, 0)
 
@@ -51,12 +52,22 @@ class Hunts(unittest.TestCase):
 
     def test_of_one_shape_the_worst_is_kept(self):
         kept = hunting.Kept()
-        light = measuring.Found("check", genes.parsed("classes=40"), 1, 0, 1, 1, 0.5, 0, 0)
-        heavy = measuring.Found("check", genes.parsed("classes=50"), 2, 0, 1, 1, 1.5, 0, 0)
-        other = measuring.Found("check", genes.parsed("traits=50"), 2, 0, 1, 1, 0.7, 0, 0)
-        self.assertEqual([kept.add(it) for it in (light, heavy, other, light)], [True, True, False, False])
-        self.assertEqual(kept.worst(), [heavy, other])
+        light = measuring.Found("check", genes.parsed("classes=40"), 1, 0, 2_000, 1, 0.5, 0, 0)
+        heavy = measuring.Found("check", genes.parsed("classes=50"), 2, 0, 2_000, 1, 1.5, 0, 0)
+        other = measuring.Found("check", genes.parsed("traits=50"), 2, 0, 1_000, 1, 0.7, 0, 0)
+        short = measuring.Found("check", genes.parsed("fields=50"), 2, 0, 999, 1, 0.1, 0, 0)
+        self.assertEqual([kept.add(it) for it in (light, heavy, other, light, short)], [True, True, False, False, False])
+        self.assertEqual(kept.worst(), [heavy, other, short])
+        self.assertEqual(kept.densest(), [other, heavy])
         self.assertEqual(hunting.above(kept.worst()), [heavy])
+
+    def test_a_source_with_fewer_genes_replaces_another(self):
+        kept = hunting.Kept()
+        large = measuring.Found("check", genes.parsed("classes=50 fields=40"), 2, 0, 2_000, 1, 1.5, 0, 0)
+        plainer = measuring.Found("check", genes.parsed("classes=50"), 2, 0, 2_000, 1, 1.49, 0, 0)
+        kept.add(large)
+        kept.replace(large, plainer)
+        self.assertEqual((kept.worst(), kept.densest()), ([plainer], [plainer]))
 
 
 class Statuses(unittest.TestCase):
