@@ -23,8 +23,11 @@ COMMANDS = ("show", "check", "judge", "explain", "places", "sends", "run")
 # The commands that may write a name, or a line, once for each class.
 WRITING = ("places", "sends")
 
-# Growths are estimated from two parts of a source. What is fitted outside these bounds is noise.
+# Growths are estimated from what a command takes for a part of a source and for a quarter of that part. What is outside these bounds
+# is noise, and so it is if the quarter takes less than this share of what the program takes to start.
+QUARTER = 1 / 4
 LEAST_GROWTH, MOST_GROWTH = 0.5, 3.0
+SHARE_OF_THE_START = 0.5
 
 
 @dataclasses.dataclass(frozen=True)
@@ -108,11 +111,13 @@ class Measuring:
         return max(TIMES_THE_CHECK * self.check, writing) / self.part
 
     def growth(self, command, genes, whole):
-        """By which power of its size the amount grows, from half of the part that took `whole` on."""
-        half, _ = self.tried(command, genes, self.part / 2)
-        if half is None or half.status is None:
+        """By which power of its size the amount grows, from a quarter of the part that took `whole` on."""
+        quarter, _ = self.tried(command, genes, self.part * QUARTER)
+        if quarter is None or quarter.status is None:
             return MOST_GROWTH
-        return min(max(math.log2(whole / half.amount), LEAST_GROWTH), MOST_GROWTH)
+        if quarter.amount < SHARE_OF_THE_START * self.start:
+            return 1.0
+        return min(max(math.log(whole / quarter.amount, 1 / QUARTER), LEAST_GROWTH), MOST_GROWTH)
 
     def found(self, command, genes):
         """What a command takes for a source; nothing if it reads a derivation and there is none."""

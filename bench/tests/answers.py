@@ -16,8 +16,8 @@ import sizes
 TOP = pathlib.Path(__file__).resolve().parents[2]
 
 # How many sources are tried, and up to which size: the program may be one without proofs, which is slow.
-SOURCES = 40
-BYTES_AT_MOST = 8_000
+SOURCES = 30
+BYTES_AT_MOST = 4_000
 PART = 0.02
 
 COMMANDS = ("show", "check", "explain", "places", "sends")
