@@ -118,9 +118,10 @@ class Hunt:
         return fitting.filled(self.chance, changed, self.held) if way < 0.85 else changed
 
     def parent(self, command):
-        """One of the sources that are kept for a command, more often a bad one; nothing as long as there are few."""
+        """One of the sources that are kept for a command, more often a bad one, and none at which it was stopped; nothing as long as
+        there are few."""
         kept = self.kept[command]
-        some = kept.worst() if self.chance.random() < 0.5 else kept.densest()
+        some = [it for it in (kept.worst() if self.chance.random() < 0.5 else kept.densest()) if it.status is not None]
         if len(kept.by_amount) < BEGINNERS or not some:
             return None
         return some[min(int(self.chance.expovariate(0.3)), len(some) - 1)]
