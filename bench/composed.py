@@ -7,12 +7,7 @@ import dataclasses
 import itertools
 
 import genes as descriptions
-
-ACCEPTED = 0
-NO_RULE = 1
-NO_TOKENS = 3
-WRONG_NAMES = 4
-LIMIT = 8
+from shapes import ACCEPTED, LIMIT, NO_RULE, NO_TOKENS, WRONG_NAMES
 
 METHODS_AT_MOST = 10_000
 
@@ -54,7 +49,8 @@ class Names:
         return spelled(letter, number, self.genes.method_name, self.genes.differ)
 
     def trait_method(self, writer, number):
-        """The name of a method that a trait writes. The first trait's have the numbers from 0 on, and so have all that are the same."""
+        """The name of a method that a trait writes. Those of the first trait have the numbers from 0 on, and so have all that are the
+        same."""
         block = 0 if self.genes.trait_names == "same" else writer
         return self.method("m", block * self.genes.trait_methods + number)
 
@@ -173,7 +169,7 @@ NUMBER = Piece("0", 1, 1)
 
 @dataclasses.dataclass(frozen=True)
 class Inside:
-    """Where an item is: the entity's name, the name of its first method or nothing, and whether parameters and fields are there."""
+    """Where an item is: the entity's name, the name of its first method or nothing, and whether fields are there."""
 
     own: str
     first_method: str | None

@@ -10,7 +10,8 @@ import signal
 import subprocess
 import tempfile
 
-# What cachegrind writes at the end.
+# What `perf` writes, and what cachegrind writes at the end.
+COUNTED = re.compile(rb"^(\d+),.*instructions", re.M)
 REFERRED = re.compile(rb"I\s+refs:\s+([\d,]+)")
 
 # How much of a command's output is read at once.
@@ -89,7 +90,7 @@ class Instructions:
 
 def by_perf():
     """Counts by `perf`, which takes no time."""
-    return Instructions(["perf", "stat", "-x,", "-e", "instructions:u", "-o", "REPORT", "--"], re.compile(rb"^(\d+),.*instructions", re.M), 1)
+    return Instructions(["perf", "stat", "-x,", "-e", "instructions:u", "-o", "REPORT", "--"], COUNTED, 1)
 
 
 def by_valgrind():

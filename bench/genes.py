@@ -53,7 +53,9 @@ class Genes:
         "what they do: `call` calls the first method of `this`, `ask` that of the last parameter; the others are values or read",
     )
     main_items: int = size(1, 199_900, "items in the constructor of Main", least=1)
-    main_item: str = word(("number", "text", "local", "call", "object"), "what these do: `call` calls a method of an object kept as a trait")
+    main_item: str = word(
+        ("number", "text", "local", "call", "object"), "what these do: `call` calls a method of an object that is kept as a trait"
+    )
     text: int = size(1, 4_096, "bytes of each text")
     length: int = size(1, 99_900, "operands of an item that is a number", least=1)
     levels: int = size(0, 190, "levels around each item")

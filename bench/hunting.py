@@ -31,9 +31,10 @@ def changes(genes):
 
 
 class Kept:
-    """The worst sources of one command: of each shape the one that takes most, and the one that takes most for each byte. The first
-    are what a hunt looks for. The second lead to it: of a small source one sees what grows with the product of two sizes, and a large
-    one is as slow as others that are only large."""
+    """The worst sources of one command: of each shape the one that takes most, and the one that takes most for each byte.
+
+    The first are what a hunt looks for. The second lead to it: in a small source one sees what grows with the product of two sizes,
+    and a large one is as slow as others that are only large."""
 
     def __init__(self):
         self.by_amount, self.by_byte = {}, {}
@@ -118,8 +119,8 @@ class Hunt:
         return fitting.filled(self.chance, changed, self.held) if way < 0.85 else changed
 
     def parent(self, command):
-        """One of the sources that are kept for a command, more often a bad one, and none at which it was stopped; nothing as long as
-        there are few."""
+        """One of the sources that are kept for a command, more often a bad one, and none at which it was stopped; nothing as long
+        as there are few."""
         kept = self.kept[command]
         some = [it for it in (kept.worst() if self.chance.random() < 0.5 else kept.densest()) if it.status is not None]
         if len(kept.by_amount) < BEGINNERS or not some:

@@ -23,8 +23,8 @@ COMMANDS = ("show", "check", "judge", "explain", "places", "sends", "run")
 # The commands that may write a name, or a line, once for each class.
 WRITING = ("places", "sends")
 
-# Growths are estimated from what a command takes for a part of a source and for a quarter of that part. What is outside these bounds
-# is noise, and so it is if the quarter takes less than this share of what the program takes to start.
+# Growths are estimated from what a command takes for a part of a source and for a quarter of that part. What is outside these
+# bounds is noise, and so it is if the quarter takes less than this share of what the program takes to start.
 QUARTER = 1 / 4
 LEAST_GROWTH, MOST_GROWTH = 0.5, 3.0
 SHARE_OF_THE_START = 0.5
@@ -32,8 +32,8 @@ SHARE_OF_THE_START = 0.5
 
 @dataclasses.dataclass(frozen=True)
 class Found:
-    """What a command took for a source: the amount and the bytes of the whole of it, seconds of the processor for the part that was
-    tried, how fast the amount grows with the size, how many times its limit it is, and the status, or nothing if it was stopped."""
+    """What a command took for a source: the amount and the bytes of the whole, seconds of the processor for the part that was tried,
+    how fast the amount grows with the size, how many times its limit it is, and the status, or nothing if it was stopped."""
 
     command: str
     genes: descriptions.Genes
@@ -53,7 +53,9 @@ class Found:
         """A line of the table."""
         amount = f"{self.amount / 1e6:,.0f} M {unit}" if unit == "instructions" else f"{self.amount:.2f} s"
         each = f"{self.density():,.0f}" if unit == "instructions" else f"{self.density() * 1e9:,.0f} ns"
-        note = "  STOPPED" if self.status is None else "" if self.status == self.wanted else f"  WRONG: {self.status}, not {self.wanted}"
+        note = "" if self.status == self.wanted else f"  WRONG: {self.status}, not {self.wanted}"
+        if self.status is None:
+            note = "  STOPPED"
         return (
             f"{self.command:<8}{self.times:>7.2f} times the limit{amount:>24}{each:>12} a byte{self.bytes:>10} bytes"
             f"{self.seconds:>8.2f} s{note}\n        {descriptions.line_of(self.genes)}"

@@ -146,7 +146,8 @@ def sizes_of(genes):
     add_classes(total, genes)
     for piece in composed.main_pieces(genes):
         total.add(piece)
-    return Sizes(total.bytes, total.tokens, composed.number_of_methods(genes), total.nodes + genes.classes * nodes_of_a_class(genes))
+    total.nodes += genes.classes * nodes_of_a_class(genes)
+    return Sizes(total.bytes, total.tokens, composed.number_of_methods(genes), total.nodes)
 
 
 def estimated(genes):

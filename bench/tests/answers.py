@@ -43,12 +43,13 @@ class Answers(unittest.TestCase):
     """Each description says how its source is answered."""
 
     def look(self, described):
-        """Asks one command, another one for each source."""
+        """Asks each command."""
         with tempfile.NamedTemporaryFile("w", suffix=".pony") as file:
             file.writelines(it.text for it in composed.pieces(described))
             file.flush()
             for command in COMMANDS:
-                ended = subprocess.run([program(), command, file.name], stdin=subprocess.DEVNULL, capture_output=True, check=False)
+                words = [program(), command, file.name]
+                ended = subprocess.run(words, stdin=subprocess.DEVNULL, capture_output=True, check=False)
                 self.assertEqual(ended.returncode, composed.status_of(command, described), (command, ended.stderr))
 
     def test_sources_by_chance(self):
@@ -60,7 +61,8 @@ class Answers(unittest.TestCase):
         lines = [f"item={it}" for it in genes.FIELDS["item"].metadata["words"]]
         lines += [f"main_item={it}" for it in genes.FIELDS["main_item"].metadata["words"]]
         lines += [f"fault={it}" for it in genes.FIELDS["fault"].metadata["words"]]
-        lines += [f"class_kind={kind} item=ask parameter_type={it}" for kind in ("class", "actor") for it in ("first", "last", "own", "own_last")]
+        types = genes.FIELDS["parameter_type"].metadata["words"]
+        lines += [f"class_kind={kind} item=ask parameter_type={it}" for kind in ("class", "actor") for it in types]
         for line in lines:
             with self.subTest(line):
                 self.look(fitting.consistent(genes.parsed(f"{genes.line_of(genes.SMALL)} {line}")))

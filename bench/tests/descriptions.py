@@ -70,7 +70,8 @@ class Lines(unittest.TestCase):
                 genes.parsed(line)
 
     def test_parts_of_a_description(self):
-        self.assertEqual(genes.scaled(genes.parsed("traits=100 classes=3 items=1 nest=if"), 0.25), genes.parsed("traits=25 classes=1 nest=if"))
+        whole, quarter = genes.parsed("traits=100 classes=3 items=1 nest=if"), genes.parsed("traits=25 classes=1 nest=if")
+        self.assertEqual(genes.scaled(whole, 0.25), quarter)
 
 
 class Sources(unittest.TestCase):
@@ -88,13 +89,16 @@ class Sources(unittest.TestCase):
 
     def test_methods_are_counted_with_those_taken_over(self):
         # T0 has 3, T1 takes them over; each class writes 1 of the 3, takes 2 over and gets a `create`; Main has one.
-        self.assertEqual(composed.number_of_methods(genes.parsed("traits=2 traits_is=1 trait_methods=3 bodies=yes classes=5 classes_is=1 class_methods=1")), 6 + 5 * 4 + 1)
+        line = "traits=2 traits_is=1 trait_methods=3 bodies=yes classes=5 classes_is=1 class_methods=1"
+        self.assertEqual(composed.number_of_methods(genes.parsed(line)), 6 + 5 * 4 + 1)
         # Three writers with two new names each: 2, 4 and 6 methods; a primitive takes six over and gets no `create`.
-        line = "traits=3 traits_is=1 writers=3 trait_methods=2 trait_names=new bodies=yes classes=1 class_kind=primitive classes_is=1"
+        line = "traits=3 traits_is=1 writers=3 trait_methods=2 trait_names=new bodies=yes classes=1 class_kind=primitive "
+        line += "classes_is=1"
         self.assertEqual(composed.number_of_methods(genes.parsed(line)), 2 + 4 + 6 + 6 + 1)
 
     def test_statuses(self):
-        statuses = {it: composed.status_of(it, genes.parsed("fault=rule")) for it in ("show", "check", "explain", "places", "sends")}
+        commands = ("show", "check", "explain", "places", "sends")
+        statuses = {it: composed.status_of(it, genes.parsed("fault=rule")) for it in commands}
         self.assertEqual(statuses, {"show": 0, "check": 1, "explain": 0, "places": 0, "sends": 1})
         statuses = {it: composed.status_of(it, genes.parsed("fault=name")) for it in ("show", "check", "explain", "places")}
         self.assertEqual(statuses, {"show": 0, "check": 4, "explain": 0, "places": 4})
@@ -124,8 +128,9 @@ class ByChance(unittest.TestCase):
 
     def test_each_gene_changes_a_source(self):
         line = (
-            "traits=3 traits_is=1 writers=2 trait_methods=2 classes=2 classes_is=1 class_methods=2 fields=1 parameters=1 locals=1 "
-            "items=2 item=text main_items=2 text=8 levels=1 trait_name=4 class_name=4 method_name=4 field_name=4 parameter_name=4 local_name=4"
+            "traits=3 traits_is=1 writers=2 trait_methods=2 classes=2 classes_is=1 class_methods=2 fields=1 parameters=1 "
+            "locals=1 items=2 item=text main_items=2 text=8 levels=1 trait_name=4 class_name=4 method_name=4 field_name=4 "
+            "parameter_name=4 local_name=4"
         )
         plain, changed = genes.parsed(line), set()
         for name, it in genes.FIELDS.items():
