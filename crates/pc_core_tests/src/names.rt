@@ -1,6 +1,8 @@
 //! The names of files: their numbers, what is above them, and what no text spells.
-use pc_base::{List, ShortBytes};
+use pc_base::List;
 use pc_names::{NameFault, Names, collect};
+use pc_symbols::words::CREATE;
+use pc_symbols::{KeyedBy, Symbol, Symbols};
 use pc_test_inputs::{Wrong, core_of, tree_of};
 use pc_tree::{Entity, File};
 use std::alloc::{AllocError, Global};
@@ -55,22 +57,30 @@ struct Seen {
     create: Option<u32>,
 }
 
-fn seen_of(names: &Names) -> Seen {
+// The number of the entity with this name.
+fn entity_named(file: &File, names: &Names, text: &[u8]) -> Option<u32> {
+    names.entity(&file.symbols, file.symbols.find(text)?)
+}
+
+fn seen_of(file: &File, names: &Names) -> Seen {
     Seen {
         entities: names.entity_count(),
         first: (
-            names.entity(b"None"),
-            names.entity(b"Main"),
-            names.entity(b"T000"),
+            entity_named(file, names, b"None"),
+            entity_named(file, names, b"Main"),
+            entity_named(file, names, b"T000"),
         ),
-        last: (names.entity(b"T998"), names.entity(b"T999")),
+        last: (
+            entity_named(file, names, b"T998"),
+            entity_named(file, names, b"T999"),
+        ),
         above: (
             above_count(names, 7),
             above_count(names, 1_005),
             above_count(names, 1_006),
         ),
         texts: names.text_count(),
-        create: names.text(b"create"),
+        create: names.text(&file.symbols, file.symbols.word(CREATE)),
     }
 }
 
@@ -86,7 +96,7 @@ const WHOLE_CHAIN: Seen = Seen {
 
 fn seen_in_file(alloc: Global, file: &File) -> Result<Seen, Wrong> {
     let names = collect(alloc, file)?;
-    Ok(seen_of(&names))
+    Ok(seen_of(file, &names))
 }
 
 fn seen_in_text(alloc: Global, text: &[u8]) -> Result<Seen, Wrong> {
@@ -125,18 +135,20 @@ fn fault_of(alloc: Global, file: &File) -> Option<NameFault> {
 // A file without entities, which no text spells.
 fn fault_of_nothing(alloc: Global) -> Option<NameFault> {
     let entities = List::new(alloc);
-    fault_of(alloc, &File { entities })
+    let symbols = Symbols::new(alloc, KeyedBy::nothing()).ok()?;
+    fault_of(alloc, &File { symbols, entities })
 }
 
-fn named(alloc: Global, mut entity: Entity, name: &[u8]) -> Result<Entity, AllocError> {
-    entity.name.text = ShortBytes::from_slice(alloc, name)?;
-    Ok(entity)
+fn named(mut entity: Entity, name: Symbol) -> Entity {
+    entity.name.symbol = name;
+    entity
 }
 
 // The last entity of a file gets this name.
-fn rename_last(alloc: Global, file: &mut File, name: &[u8]) -> Result<(), AllocError> {
+fn rename_last(file: &mut File, name: &[u8]) -> Result<(), AllocError> {
+    let symbol = file.symbols.intern(name)?;
     match file.entities.pop() {
-        Some(entity) => file.entities.push(named(alloc, entity, name)?),
+        Some(entity) => file.entities.push(named(entity, symbol)),
         None => Ok(()),
     }
 }
@@ -144,7 +156,7 @@ fn rename_last(alloc: Global, file: &mut File, name: &[u8]) -> Result<(), AllocE
 // What is wrong with a file whose one actor is called `main`, which no text spells.
 fn fault_of_small_main(alloc: Global) -> Result<Option<NameFault>, Wrong> {
     let mut file = tree_of(alloc, MAIN)?;
-    rename_last(alloc, &mut file, b"main")?;
+    rename_last(&mut file, b"main")?;
     Ok(fault_of(alloc, &file))
 }
 

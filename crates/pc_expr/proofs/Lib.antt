@@ -4,3 +4,4 @@ pub mod Loops
 pub mod Parts
 pub mod Public
 pub mod Exact
+pub mod Numbers

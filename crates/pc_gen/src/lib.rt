@@ -11,6 +11,7 @@
 
 mod bodies;
 mod laws;
+mod names;
 mod parts;
 mod program;
 mod schedule;

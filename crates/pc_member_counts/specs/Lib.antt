@@ -5,3 +5,4 @@ pub mod Windows
 pub mod Fresh
 pub mod Plans
 pub mod Totals
+pub mod PlanView

@@ -1,4 +1,3 @@
-pub mod Views
 pub mod Tables
 pub mod Differences
 pub mod Named

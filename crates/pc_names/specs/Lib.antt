@@ -2,3 +2,4 @@ pub mod Faults
 pub mod Mains
 pub mod Laws
 pub mod Parts
+pub mod NameSymbols

@@ -1,4 +1,5 @@
 pub mod Meanings
 pub mod Indexes
+pub mod Symbolic
 pub mod Pairs
 pub mod Near

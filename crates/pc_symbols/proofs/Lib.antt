@@ -1,0 +1,4 @@
+pub mod Shown
+pub mod Meanings
+pub mod Tables
+pub mod Beyond
