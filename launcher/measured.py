@@ -25,7 +25,7 @@ SECONDS = {
     "pc_sched": 25,
     "pc_draws": 7,
     "pc_gen": 220,
-    "pc_symbols": 32,
+    "pc_keyed": 32,
     "pc_core": 79,
     "pc_members": 162,
     "pc_member_counts": 92,

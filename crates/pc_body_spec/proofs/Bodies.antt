@@ -3,7 +3,7 @@ use Rattle.std.proofs.{Common.{◌≡◌, ℕ, ◌<◌, List, [], ◌∷◌, len
 use Rattle.std.specs.Prelude.{slice_get}
 use Rattle.pc_base.specs.declared.span.Span.{Span}
 use Rattle.pc_base.proofs.Gets.{get_push, get_behind}
-use Rattle.pc_tree.specs.Tree.{Name}
+use Rattle.pc_tree.specs.declared.written_names.Name.{Name}
 use Rattle.pc_tree.specs.Tree as t
 use Rattle.pc_core.specs.declared.nodes.Node.{Node}
 use Rattle.pc_core.specs.declared.nodes.NodeKind.TheVariants as node

@@ -2,7 +2,7 @@
 use Rattle.std.proofs.{Common.{◌≡◌, ℕ, suc, ◌+◌, ◌<◌, ◌≤◌, length, List, [], ◌∷◌, ◌++◌, Option, Some, None, Bool, true, false, refl, sym, subst, inl, inr, arith, if◌then◌else◌, ap, ◌∙◌}, lemmas.Bool.{leb-true, eqb-true}, lemmas.Option.{same_Some, none-some}}
 use Rattle.std.specs.{Prelude.{slice_get, nat_eq, nat_le, ◌⊎◌}, Str.bytes_eq}
 use Rattle.pc_base.specs.{declared.span.Span.Span, Lists.Has}
-use Rattle.pc_tree.specs.{declared.kinds.Op.Op, Tree.Name, declared.kinds.EntityKind.EntityKind, Kinds.first_own}
+use Rattle.pc_tree.specs.{declared.kinds.Op.Op, declared.written_names.Name.Name, declared.kinds.EntityKind.EntityKind, Kinds.first_own}
 use Rattle.pc_tree.specs.declared.kinds.Op.TheVariants as op
 use Rattle.pc_tree.specs.declared.kinds.EntityKind.TheVariants as kind
 use Rattle.pc_tree.specs.Tree as t

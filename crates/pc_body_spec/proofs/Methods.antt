@@ -3,7 +3,7 @@ use Rattle.std.proofs.{Common.{◌≡◌, ℕ, ◌+◌, ◌≤◌, length, List,
 use Rattle.std.specs.Prelude.{slice_get, Ok, Err}
 use Rattle.pc_base.specs.declared.span.Span.{Span}
 use Rattle.pc_base.proofs.Gets.{get_within}
-use Rattle.pc_tree.specs.Tree.{Name}
+use Rattle.pc_tree.specs.declared.written_names.Name.{Name}
 use Rattle.pc_core.specs.declared.nodes.Node.{Node}
 use Rattle.pc_body_spec.specs.{Bodies.{Rose, body_of, added_body}, Fold.{Numbered, put}, Faults.{BodyNameFault, body_faults, initial_faults}, Slots.initial_locals, Methods.{MethodOutcome, slot_names, local_names, unless_fault, unless_name, unless_full, numbered_or_full, put_body}, Laws.{MethodsStand, AddedMethodsStand}}
 use Rattle.pc_body_spec.proofs.Bodies.{bodies_stand, added_bodies_stand}

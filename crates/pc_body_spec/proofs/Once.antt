@@ -2,7 +2,7 @@
 use Rattle.std.proofs.{Common.{◌≡◌, ℕ, zero, suc, ◌+◌, ◌-◌, ◌<◌, ◌≤◌, length, List, [], ◌∷◌, ◌++◌, Option, Some, None, Bool, true, false, refl, sym, ap, ◌∙◌, subst, inl, inr, arith}, lemmas.Option.{same_Some, none-some}, lemmas.Bool.{eq-eqb, and_from}, lemmas.Bool.Decides.eqb_tells}
 use Rattle.std.specs.Prelude.{slice_get, nat_eq, ◌⊎◌, ◌&&◌}
 use Rattle.pc_base.specs.{declared.span.Span.Span, Counts.one_if}
-use Rattle.pc_tree.specs.Tree.{Name}
+use Rattle.pc_tree.specs.declared.written_names.Name.{Name}
 use Rattle.pc_tree.specs.Tree as t
 use Rattle.pc_core.specs.{declared.nodes.Node.Node, declared.nodes.NodeKind.NodeKind}
 use Rattle.pc_core.specs.declared.nodes.NodeKind.TheVariants as node

@@ -2,7 +2,7 @@
 use Rattle.std.proofs.{Common.{◌≡◌, ℕ, zero, suc, ◌+◌, ◌<◌, ◌≤◌, Bool, true, false, List, [], ◌∷◌, ◌++◌, length, Option, Some, None, refl, sym, subst, arith, if◌then◌else◌}, lemmas.Option.{same_Some, none-some}, lemmas.Bool.eqb-true}
 use Rattle.std.specs.Prelude.{slice_get, nat_eq, nat_lt}
 use Rattle.pc_base.specs.{declared.span.Span.Span, Lists.{Each, Ascends}, Limits.text_limit}
-use Rattle.pc_tree.specs.Tree.{Name, TypeRef}
+use Rattle.pc_tree.specs.{declared.written_names.Name.Name, declared.written_names.TypeRef.TypeRef}
 use Rattle.pc_tree.specs.Tree as t
 use Rattle.pc_body_spec.specs.{Bodies.{Context, Scope, Constructor, Meaning, local, field, method, nothing, TypeMeaning, primitive, created, no_value, slot_named, slot_at, resolve, type_meaning, constructor_named, scope_after, params_scope, deeper, Start, with_method, with_type, with_value, chain_start, create_name, initial_fields}, Faults.{BodyNameFault, unknown, double, long_text, is_name_taken, is_entity, bare_name_faults, type_name_faults, Next, arguments, name, end, next_of, start_faults, constructor_faults, dot_faults, faults_of, exprs_faults, suffixes_faults, arms_faults, arm_faults, other_faults, seq_faults, items_faults, item_faults, initial_faults, body_faults}, Parts.{unless_some, fault_if, written_faults, value_faults, written_body_faults, value_locals, body_locals}, Slots.{Local, locals_of, exprs_locals, suffixes_locals, arm_locals, arms_locals, other_locals, seq_locals, items_locals, item_locals, initial_locals, method_locals, placed_from}, Places.{written_places, places, exprs_places, suffixes_places, arm_places, arms_places, other_places, seq_places, items_places, item_places, value_places, initial_places, written_body_places, body_places, fault_start, local_start}, Laws.{FirstIsLeast, LocalsHaveSlots}}
 

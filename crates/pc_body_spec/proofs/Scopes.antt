@@ -1,7 +1,7 @@
 -- An expression refers only to the locals before it.
 use Rattle.std.proofs.{Common.{◌≡◌, ℕ, List, [], ◌∷◌, ◌++◌, Option, Some, None, Bool, true, false, refl, sym, subst, inl, inr, if◌then◌else◌}, lemmas.List.map_push, lemmas.Option.{same_Some, none-some}}
 use Rattle.pc_base.specs.{declared.span.Span.Span, Lists.IsIn}
-use Rattle.pc_tree.specs.{declared.kinds.Op.Op, Tree.Name}
+use Rattle.pc_tree.specs.{declared.kinds.Op.Op, declared.written_names.Name.Name}
 use Rattle.pc_tree.specs.declared.kinds.Op.TheVariants as op
 use Rattle.pc_tree.specs.Tree as t
 use Rattle.pc_core.specs.declared.nodes.NodeKind.{NodeKind}

@@ -1,7 +1,7 @@
 -- Each node of an expression has as many children as its kind requires, at the required depths.
 use Rattle.std.proofs.Common.{ℕ, ◌≤◌, List, Option, Some, None, Bool, true, false, refl, arith}
 use Rattle.pc_base.specs.declared.span.Span.{Span}
-use Rattle.pc_tree.specs.{declared.kinds.Op.Op, Tree.Name}
+use Rattle.pc_tree.specs.{declared.kinds.Op.Op, declared.written_names.Name.Name}
 use Rattle.pc_tree.specs.declared.kinds.Op.TheVariants as op
 use Rattle.pc_tree.specs.Tree as t
 use Rattle.pc_body_spec.specs.{Bodies.{Rose, Roses, rose, more, no_roses, and_last, two, three, use_other, joined_span, added_this, operation, read_field, call, read_name, write_name, new_object_rose, create_name, read_type, Start, with_method, with_type, with_value, chain_start, apply_name, apply_primitive, apply, call_named, Use, read, write, use_field, if_of, arm_place, sequence, expr_of, assign_of, infix_of, operands_of, chain_of, named_of, roses_of_exprs, rose_of_arms, arm_of, other_of, whole_of, seq_of, roses_of_items, item_of, Context, Scope, Meaning, local, field, method, nothing, TypeMeaning, primitive, created, no_value, slot_named, resolve, type_meaning, constructor_named, scope_after, deeper}, Parts.consumed, Shapes.{count, Shaped, AllShaped}, Laws.IsShaped}

@@ -2,7 +2,7 @@
 use Rattle.std.proofs.Common.{◌≡◌, ℕ, suc, ◌+◌, ◌<◌, length, List, [], ◌∷◌, Some, Bool, true, false, refl, subst, arith, if◌then◌else◌}
 use Rattle.std.specs.Str.{bytes_eq}
 use Rattle.pc_caps.specs.declared.capability.Cap.{Cap}
-use Rattle.pc_tree.specs.Tree.{TypeRef}
+use Rattle.pc_tree.specs.declared.written_names.TypeRef.{TypeRef}
 use Rattle.pc_body_spec.specs.{Bodies.KnownEntity, Faults.{unknown, is_entity}, Parts.cap_or, Fold.type_of_name, Laws.WrittenTypesAreThere}
 use Rattle.pc_body_spec.proofs.Meanings.{some_fault}
 

@@ -3,7 +3,7 @@
 use Rattle.std.specs.{Prelude.{ℕ, suc, ◌+◌, ◌-◌, ◌^◌, min, Bool, true, false, List, [], ◌∷◌, ◌++◌, Option, Some, None, if◌then◌else◌, nat_eq, nat_le, codes, option_map}, Str.bytes_eq, Option.option_map_or}
 use Rattle.pc_base.specs.declared.span.Span.{Span}
 use Rattle.pc_caps.specs.declared.capability.Cap.{Cap}
-use Rattle.pc_tree.specs.{declared.kinds.EntityKind.EntityKind, Tree.{Name, ParamDef, TypeRef}, Kinds.{none_entity, first_own, at_kind}, declared.kinds.Op.Op, declared.kinds.MethodWord.MethodWord}
+use Rattle.pc_tree.specs.{declared.kinds.EntityKind.EntityKind, declared.written_names.Name.Name, declared.file.ParamDef.ParamDef, Kinds.{none_entity, first_own, at_kind}, declared.kinds.Op.Op, declared.kinds.MethodWord.MethodWord, declared.written_names.TypeRef.TypeRef}
 use Rattle.pc_core.specs.{declared.nodes.Node.Node, declared.nodes.NodeKind.NodeKind}
 use Rattle.pc_tree.specs.Tree as t
 use Rattle.pc_tree.specs.declared.kinds.Op.TheVariants as op

@@ -1,7 +1,7 @@
 -- Three small bodies with all their nodes, written out by hand.
 use Rattle.std.specs.Prelude.{map, ◌≡◌, ℕ, List, [], ◌∷◌, true, false, Some, None, codes}
 use Rattle.pc_base.specs.declared.span.Span.{Span}
-use Rattle.pc_tree.specs.{Tree.{Name, TypeRef}, Kinds.none_entity}
+use Rattle.pc_tree.specs.{declared.written_names.Name.Name, declared.written_names.TypeRef.TypeRef, Kinds.none_entity}
 use Rattle.pc_core.specs.declared.nodes.Node.{Node}
 use Rattle.pc_body_spec.specs.{Fold.{put, local_slot}, Bodies.{node_of, body_with, Context, KnownEntity, Constructor, PlacedLocal}, Faults.body_faults, Slots.{slots_of, method_locals}}
 use Rattle.pc_caps.specs.declared.capability.Cap.TheVariants as cap

@@ -1,7 +1,7 @@
 -- The faults of the names and texts of a body, in the order of the text.
 use Rattle.std.specs.{Prelude.{ℕ, Bool, true, false, List, [], ◌∷◌, ◌++◌, length, if◌then◌else◌, nat_lt, flat_map}, Str.bytes_eq, Option.{option_map_or, is_none}}
 use Rattle.pc_base.specs.{declared.span.Span.Span, Limits.text_limit, Lists.one_if}
-use Rattle.pc_tree.specs.Tree.{Name, TypeRef}
+use Rattle.pc_tree.specs.{declared.written_names.Name.Name, declared.written_names.TypeRef.TypeRef}
 use Rattle.pc_body_spec.specs.Bodies.{Context, Scope, KnownEntity, Constructor, Meaning, local, field, TypeMeaning, primitive, created, no_value, slot_named, resolve, type_meaning, constructor_named, scope_after, params_scope, Start, with_method, with_type, with_value, chain_start, create_name, initial_fields}
 use Rattle.pc_tree.specs.Tree as t
 

@@ -3,7 +3,7 @@ use Rattle.std.specs.{Prelude.{ℕ, List, [], ◌∷◌, ◌++◌, length, Optio
 use Rattle.pc_base.specs.{declared.span.Span.Span, Limits.node_limit}
 use Rattle.pc_caps.specs.declared.capability.Cap.{Cap}
 use Rattle.pc_core.specs.{declared.nodes.Node.Node, declared.nodes.NodeKind.NodeKind, declared.nodes.Slot.Slot}
-use Rattle.pc_tree.specs.Tree.{TypeRef}
+use Rattle.pc_tree.specs.declared.written_names.TypeRef.{TypeRef}
 use Rattle.pc_body_spec.specs.{Bodies.{Context, KnownEntity, Rose, rose, Roses, no_roses, more, node_of}, Slots.{Local, local_kind}}
 
 -- A result and the nodes so far, or none if there are too many nodes.

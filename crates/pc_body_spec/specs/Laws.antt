@@ -3,7 +3,7 @@ use Rattle.std.specs.Prelude.{◌≡◌, ◌⊎◌, ℕ, Bool, ◌+◌, ◌<◌,
 use Rattle.pc_core.specs.{declared.nodes.Node.Node, Methods.{PostOrder, UsesSlot}, Nodes.{HasArity, inner_depth}}
 use Rattle.pc_base.specs.{Lists.{Each, Has, Ascends, IsIn}, declared.span.Span.Span, Limits.{node_limit, slot_limit}}
 use Rattle.pc_caps.specs.declared.capability.Cap.{Cap}
-use Rattle.pc_tree.specs.Tree.{TypeRef}
+use Rattle.pc_tree.specs.declared.written_names.TypeRef.{TypeRef}
 use Rattle.pc_body_spec.specs.{Bodies.{Rose, expr_of, body_of, added_body, Context, Scope, params_scope, slot_at}, Fold.{put, written_of}, Shapes.Shaped, Visibility.{Scoped, slots}, Methods.{slot_names, local_names, method_of, added_of}, Slots.{Local, locals_of, initial_locals, method_locals, slots_of, added_slots}, Counts.{times, local_times}, Places.{body_places, initial_places, fault_start, local_start}, Faults.{BodyNameFault, faults_of, body_faults, initial_faults}, Parts.written_faults, Meanings.{Every, NamesWhatIsThere}}
 use Rattle.pc_core.specs.declared.nodes.NodeKind.TheVariants as node
 use Rattle.pc_tree.specs.Tree as t

@@ -1,7 +1,7 @@
 -- The elaboration of a method: its nodes after those of the methods before it, or its first fault.
 use Rattle.std.specs.Prelude.{ℕ, List, [], ◌∷◌, ◌++◌, map, Option, Some, None, Result, Ok, Err, slice_get, ◌-◌}
 use Rattle.pc_base.specs.{declared.span.Span.Span, Limits.slot_limit}
-use Rattle.pc_tree.specs.Tree.{Name, ParamDef}
+use Rattle.pc_tree.specs.{declared.written_names.Name.Name, declared.file.ParamDef.ParamDef}
 use Rattle.pc_core.specs.declared.nodes.Node.{Node}
 use Rattle.pc_body_spec.specs.{Bodies.{Rose, body_of, added_body, Context}, Fold.{Numbered, put}, Faults.{BodyNameFault, body_faults, initial_faults}, Slots.{Local, initial_locals, method_locals}}
 use Rattle.pc_tree.specs.Tree as t

@@ -2,7 +2,7 @@
 use Rattle.std.specs.{Prelude.{ℕ, Bool, List, [], ◌∷◌, flat_map, Option, option_map, unwrap_or, ◌++◌}, Option.{option_map_or, is_none}}
 use Rattle.pc_base.specs.{Lists.one_if, declared.span.Span.Span}
 use Rattle.pc_caps.specs.declared.capability.Cap.{Cap}
-use Rattle.pc_tree.specs.Tree.{Name, TypeRef}
+use Rattle.pc_tree.specs.{declared.written_names.Name.Name, declared.written_names.TypeRef.TypeRef}
 use Rattle.pc_body_spec.specs.{Bodies.{Rose, Roses, leaf, gap, more, write_field, added_this, expr_of, body_with, Context, Scope}, Faults.{BodyNameFault, faults_of, seq_faults, written_type_faults}, Slots.{Local, locals_of, seq_locals, expr_texts, seq_texts}}
 use Rattle.pc_core.specs.declared.nodes.NodeKind.TheVariants as node
 use Rattle.pc_tree.specs.Tree as t

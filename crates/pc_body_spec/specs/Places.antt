@@ -1,6 +1,6 @@
 -- The places at which a body can have faults and locals, in the order of the text.
 use Rattle.std.specs.Prelude.{ℕ, List, [], ◌∷◌, ◌++◌, Option, Some, None}
-use Rattle.pc_tree.specs.Tree.{TypeRef}
+use Rattle.pc_tree.specs.declared.written_names.TypeRef.{TypeRef}
 use Rattle.pc_body_spec.specs.{Bodies.initial_fields, Faults.{BodyNameFault, unknown, double, long_text}, Slots.Local}
 use Rattle.pc_tree.specs.Tree as t
 

@@ -1,7 +1,7 @@
 -- The locals of a body, in the order in which their names are in the text, and their slots; and the names after a `.` in a
 -- file, in the order of the text.
 use Rattle.std.specs.{Prelude.{ℕ, suc, ◌+◌, Bool, true, false, List, [], ◌∷◌, ◌++◌, length, Option, flat_map}, Option.option_map_or}
-use Rattle.pc_tree.specs.Tree.{Name, TypeRef}
+use Rattle.pc_tree.specs.{declared.written_names.Name.Name, declared.written_names.TypeRef.TypeRef}
 use Rattle.pc_core.specs.declared.nodes.SlotKind.{SlotKind}
 use Rattle.pc_body_spec.specs.Bodies.{PlacedLocal, deeper, initial_fields}
 use Rattle.pc_tree.specs.Tree as t

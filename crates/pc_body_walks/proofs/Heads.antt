@@ -1,7 +1,7 @@
 -- The faults at the start of a chain.
 use Rattle.std.proofs.Common.{◌≡◌, [], ◌∷◌, ◌++◌, Result, refl, ap, sym, ◌∙◌, subst}
 use Rattle.pc_base.specs.declared.span.Span.{Span}
-use Rattle.pc_tree.specs.Tree.{Name}
+use Rattle.pc_tree.specs.declared.written_names.Name.{Name}
 use Rattle.pc_tree.specs.Tree as t
 use Rattle.pc_body_spec.specs.{Bodies.{Context, Scope, Meaning, local, field, method, nothing, resolve, TypeMeaning, primitive, created, no_value, type_meaning, constructor_named, create_name, start_with_name, with_type, with_value}, Faults.{unknown, constructor_faults, faults_of, start_faults, type_name_faults, suffixes_faults, exprs_faults, next_of}, Parts.unless_some}
 use Rattle.pc_body_walks.specs.{declared.fault.BodyFault.BodyFault, Checking.{IsFirstBodyFault, TellsFirstBodyFault, name_head_faults, type_head_faults, head_faults, args_faults}}

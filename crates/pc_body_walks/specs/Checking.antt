@@ -1,7 +1,7 @@
 -- The first fault of a body, as a walk in the order of the text finds it.
 use Rattle.std.specs.Prelude.{◌≡◌, List, [], ◌∷◌, ◌++◌, Result, Ok, Err}
 use Rattle.pc_base.specs.declared.span.Span.{Span}
-use Rattle.pc_tree.specs.Tree.{Name}
+use Rattle.pc_tree.specs.declared.written_names.Name.{Name}
 use Rattle.pc_body_spec.specs.{Bodies.{Context, Scope, Constructor, constructor_named, Meaning, resolve, TypeMeaning, primitive, created, no_value, type_meaning, create_name, start_with_name}, Faults.{BodyNameFault, unknown, double, long_text, bare_name_faults, Next, arguments, name, end, next_of, start_faults, constructor_faults, faults_of, exprs_faults}, Parts.unless_some}
 use Rattle.pc_body_walks.specs.{declared.fault.BodyFault.BodyFault, declared.starts.Next.Next as CodeNext}
 use Rattle.pc_tree.specs.Tree as t

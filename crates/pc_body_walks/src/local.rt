@@ -1,8 +1,10 @@
 //! The locals of a body.
-ghost use Rattle.std.specs.Prelude.{◌≡◌};
+ghost use Rattle.std.specs.Prelude.{◌≡◌, IfOk};
 ghost use Rattle.std.specs.Option.{option_copied};
 
+use pc_base::ShortBytes;
 use pc_tree::{Name, TypeRef};
+use std::alloc::{AllocError, Global};
 use std::marker::Model;
 
 /// A local at its definition.
@@ -24,15 +26,23 @@ impl Model for Local {
 
 impl Local {
     /// A copy of what is written for a local.
-    pub(crate) fn copy(fixed: bool, name: &Name, ty: &Option<TypeRef>, depth: u32) -> Local
-        ensures { result ≡ record { fixed = fixed; name = (name_view symbols.now name.now); ty = (maybe_type_view symbols.now ty.now); depth = depth } }
+    pub(crate) fn copy(
+        alloc: Global,
+        fixed: bool,
+        name: &Name,
+        ty: &Option<TypeRef>,
+        depth: u32,
+    ) -> Result<Local, AllocError>
+        ensures { IfOk result (λ l. l ≡ record { fixed = fixed; name = name.now; ty = ty.now; depth = depth }) }
     {
-        Local {
+        let name = copy_name(alloc, name)?;
+        let ty = copy_written(alloc, ty)?;
+        Ok(Local {
             fixed,
-            name: *name,
-            ty: *ty,
+            name,
+            ty,
             depth,
-        }
+        })
     }
 
     /// Whether the keyword is `let`: the local is never assigned again.
@@ -64,5 +74,40 @@ impl Local {
         ensures { result ≡ self.now.depth }
     {
         self.depth
+    }
+}
+
+// A copy of a name.
+fn copy_name(alloc: Global, name: &Name) -> Result<Name, AllocError>
+    ensures { IfOk result (λ n. n ≡ name.now) }
+{
+    let text = ShortBytes::from_slice(alloc, name.text.as_slice())?;
+    Ok(Name {
+        text,
+        span: name.span,
+    })
+}
+
+// A copy of a type.
+fn copy_type(alloc: Global, ty: &TypeRef) -> Result<TypeRef, AllocError>
+    ensures { IfOk result (λ t. t ≡ ty.now) }
+{
+    let name = copy_name(alloc, &ty.name)?;
+    Ok(TypeRef {
+        name,
+        cap: ty.cap,
+        hat: ty.hat,
+    })
+}
+
+fn copy_written(alloc: Global, ty: &Option<TypeRef>) -> Result<Option<TypeRef>, AllocError>
+    ensures { IfOk result (λ t. t ≡ ty.now) }
+{
+    match ty {
+        None => Ok(None),
+        Some(ty) => {
+            let ty = copy_type(alloc, ty)?;
+            Ok(Some(ty))
+        }
     }
 }

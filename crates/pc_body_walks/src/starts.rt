@@ -1,8 +1,7 @@
 //! How chains of suffixes start, and what is allowed there.
 ghost use Rattle.std.specs.Prelude.{◌≡◌, ◌∷◌, []};
-ghost use Rattle.pc_resolve.specs.Symbolic.{constructors_view, context_view, scope_view};
 ghost use Rattle.pc_tree.specs.Tree as t;
-ghost use Rattle.pc_tree.specs.View.{name_view, suffix_view, suffixes_view};
+ghost use Rattle.pc_tree.specs.View.{suffix_view, suffixes_view};
 ghost use Rattle.pc_body_spec.specs.Bodies.{with_method, resolve, type_meaning};
 ghost use Rattle.pc_body_spec.specs.Faults as spec;
 ghost use Rattle.pc_body_walks.specs.Checking.{TellsFirstBodyFault, created_faults, name_head_faults, next_view, type_head_faults};
@@ -11,7 +10,6 @@ use crate::checks::{check_constructor, check_create};
 use crate::fault::BodyFault;
 use pc_base::Span;
 use pc_resolve::{Constructors, Context, Meaning, Scope, TypeMeaning};
-use pc_symbols::Symbols;
 use pc_tree::{Name, Suffix};
 
 /// What follows a part of a chain.
@@ -24,17 +22,17 @@ pub(crate) enum Next {
 }
 
 /// The start of these suffixes.
-pub(crate) fn next_of(symbols: &Symbols, suffixes: &[Suffix]) -> Next
-    ensures { next_view result ≡ spec.next_of (suffixes_view symbols.now suffixes.now) }
+pub(crate) fn next_of(suffixes: &[Suffix]) -> Next
+    ensures { next_view result ≡ spec.next_of (suffixes_view suffixes.now) }
 {
     match suffixes.split_first() {
         None => Next::End,
-        Some((first, _)) => next_is(symbols, first),
+        Some((first, _)) => next_is(first),
     }
 }
 
-fn next_is(symbols: &Symbols, first: &Suffix) -> Next
-    ensures { (rest : t.Suffixes) → next_view result ≡ spec.next_of (t.suffix (suffix_view symbols.now first.now) rest) }
+fn next_is(first: &Suffix) -> Next
+    ensures { (rest : t.Suffixes) → next_view result ≡ spec.next_of (t.suffix (suffix_view first.now) rest) }
 {
     match first {
         Suffix::Dot(_) => Next::Name,
@@ -44,15 +42,14 @@ fn next_is(symbols: &Symbols, first: &Suffix) -> Next
 
 /// A bare name that starts a chain is a visible local or parameter, a field, or before arguments a method.
 pub(crate) fn check_name_head(
-    symbols: &Symbols,
     context: &Context,
     scope: &Scope,
     name: &Name,
     next: Next,
 ) -> Result<(), BodyFault>
-    ensures { TellsFirstBodyFault result (name_head_faults (name_view symbols.now name.now) (resolve (context_view symbols.now context.now) (scope_view symbols.now scope.now) (name_view symbols.now name.now).text) (next_view next)) }
+    ensures { TellsFirstBodyFault result (name_head_faults name.now (resolve context.now scope.now name.now.text) (next_view next)) }
 {
-    match context.meaning(symbols, scope.find(symbols, name.symbol), name.symbol) {
+    match context.meaning(scope.find(name.text.as_slice()), name.text.as_slice()) {
         Meaning::Local(_) | Meaning::Field => Ok(()),
         Meaning::Method => check_method_head(name, next),
         Meaning::Nothing => Err(BodyFault::Unknown(name.span)),
@@ -61,7 +58,7 @@ pub(crate) fn check_name_head(
 
 // Arguments follow the bare name of a method.
 fn check_method_head(name: &Name, next: Next) -> Result<(), BodyFault>
-    ensures { TellsFirstBodyFault result (spec.start_faults (with_method (name_view symbols.now name.now)) (next_view next) (spec.unknown name.now.span ∷ [])) }
+    ensures { TellsFirstBodyFault result (spec.start_faults (with_method name.now) (next_view next) (spec.unknown name.now.span ∷ [])) }
 {
     match next {
         Next::Arguments => Ok(()),
@@ -72,17 +69,15 @@ fn check_method_head(name: &Name, next: Next) -> Result<(), BodyFault>
 /// A type name that starts a chain is that of a primitive, or of a class or an actor. A name directly after the latter
 /// is that of a constructor, and is followed by arguments; otherwise there is a constructor `create`.
 pub(crate) fn check_type_head(
-    symbols: &Symbols,
     context: &Context,
     head: &Name,
     suffixes: &[Suffix],
 ) -> Result<(), BodyFault>
-    ensures { TellsFirstBodyFault result (type_head_faults (type_meaning (context_view symbols.now context.now) (name_view symbols.now head.now).text) head.now.span (suffixes_view symbols.now suffixes.now)) }
+    ensures { TellsFirstBodyFault result (type_head_faults (type_meaning context.now head.now.text) head.now.span (suffixes_view suffixes.now)) }
 {
-    match context.type_meaning(symbols, head.symbol) {
+    match context.type_meaning(head.text.as_slice()) {
         TypeMeaning::Primitive(_) => Ok(()),
         TypeMeaning::Created { constructors, .. } => check_created(
-            symbols,
             constructors,
             head.span,
             suffixes,
@@ -93,33 +88,27 @@ pub(crate) fn check_type_head(
 
 // The name of a class or an actor with these constructors, and what comes directly after it.
 fn check_created(
-    symbols: &Symbols,
     constructors: &Constructors,
     span: Span,
     suffixes: &[Suffix],
 ) -> Result<(), BodyFault>
-    ensures { TellsFirstBodyFault result (created_faults (constructors_view symbols.now constructors.now) span (suffixes_view symbols.now suffixes.now)) }
+    ensures { TellsFirstBodyFault result (created_faults constructors.now span (suffixes_view suffixes.now)) }
 {
     let Some((first, rest)) = suffixes.split_first() else {
-        return check_create(symbols, constructors, span);
+        return check_create(constructors, span);
     };
     match first {
-        Suffix::Dot(name) => check_called(symbols, constructors, name, next_of(symbols, rest)),
-        Suffix::Args { .. } => check_create(symbols, constructors, span),
+        Suffix::Dot(name) => check_called(constructors, name, next_of(rest)),
+        Suffix::Args { .. } => check_create(constructors, span),
     }
 }
 
 // The name of one of these constructors, followed by arguments.
-fn check_called(
-    symbols: &Symbols,
-    constructors: &Constructors,
-    name: &Name,
-    next: Next,
-) -> Result<(), BodyFault>
-    ensures { TellsFirstBodyFault result (spec.constructor_faults (constructors_view symbols.now constructors.now) (name_view symbols.now name.now) (next_view next)) }
+fn check_called(constructors: &Constructors, name: &Name, next: Next) -> Result<(), BodyFault>
+    ensures { TellsFirstBodyFault result (spec.constructor_faults constructors.now name.now (next_view next)) }
 {
     match next {
-        Next::Arguments => check_constructor(symbols, constructors, name.symbol, name.span),
+        Next::Arguments => check_constructor(constructors, name.text.as_slice(), name.span),
         Next::Name | Next::End => Err(BodyFault::Unknown(name.span)),
     }
 }

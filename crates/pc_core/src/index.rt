@@ -5,7 +5,7 @@ ghost use Rattle.pc_core.specs.MethodKeys.{method_key, is_key};
 
 use crate::declarations::Method;
 use indexmap::IndexSet;
-use pc_symbols::KeyedBy;
+use pc_keyed::KeyedBy;
 use std::alloc::{AllocError, Global};
 use std::fmt;
 use std::marker::Model;

@@ -2,7 +2,7 @@
 use Rattle.std.proofs.Common.{◌≡◌, ℕ, List, [], ◌∷◌, ◌++◌, Option, Some, None, Bool, true, false, refl, ap, ap₂, sym, subst, if◌then◌else◌}
 use Rattle.std.specs.Str.{bytes_eq}
 use Rattle.pc_base.specs.declared.span.Span.{Span}
-use Rattle.pc_tree.specs.Tree.{Name, TypeRef}
+use Rattle.pc_tree.specs.{declared.written_names.Name.Name, declared.written_names.TypeRef.TypeRef}
 use Rattle.pc_tree.specs.Tree as t
 use Rattle.pc_body_spec.specs.{Bodies.{Context, Scope, Visible, Constructor, Meaning, local, member, unless_local, TypeMeaning, created, is_among_names, slot_named, resolve, type_meaning, constructor_named, defined_local, scope_after, params_scope, Start, with_type, with_value, start_with_name, chain_start, create_name, initial_fields}, Faults.{BodyNameFault, double, unknown, bare_name_faults, type_name_faults, is_entity, is_name_taken, Next, arguments, name, end, next_of, start_faults, dot_faults, faults_of, exprs_faults, suffixes_faults, arms_faults, arm_faults, other_faults, seq_faults, items_faults, item_faults, initial_faults, body_faults}, Parts.{fault_if, unless_some, written_faults, value_faults, written_body_faults}}
 

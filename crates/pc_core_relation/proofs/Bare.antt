@@ -2,7 +2,7 @@
 use Rattle.std.proofs.Common.{◌≡◌, ℕ, suc, ◌+◌, List, [], ◌∷◌, Option, Some, None, Bool, true, false, refl, ap, ap₂, ◌∙◌, sym}
 use Rattle.std.specs.Option.{option_map_or}
 use Rattle.pc_base.specs.declared.span.Span.{Span}
-use Rattle.pc_tree.specs.{declared.kinds.Op.Op, Tree.Name}
+use Rattle.pc_tree.specs.{declared.kinds.Op.Op, declared.written_names.Name.Name}
 use Rattle.pc_tree.specs.Tree as t
 use Rattle.pc_core.specs.declared.nodes.NodeKind.TheVariants as node
 use Rattle.pc_body_spec.specs.{Bodies.{Context, Scope, Meaning, local, field, method, nothing, TypeMeaning, primitive, created, no_value, slot_named, resolve, type_meaning, constructor_named, scope_after, deeper, params_scope, Rose, Roses, rose, more, no_roses, leaf, one, two, three, and_last, joined_span, added_this, operation, read_field, write_field, call, read_name, write_name, new_object_rose, create_name, read_type, Start, with_method, with_type, with_value, chain_start, apply_name, apply_primitive, apply, call_named, Use, read, write, use_field, use_other, if_of, arm_place, added_none, or_added_none, sequence, expr_of, assign_of, infix_of, operands_of, chain_of, named_of, roses_of_exprs, rose_of_arms, arm_of, other_of, whole_of, seq_of, roses_of_items, item_of, initials_then, initial_fields, gives_none, none_last, body_around, body_with, body_of}, Parts.{consumed, initial_of, maybe_body}}

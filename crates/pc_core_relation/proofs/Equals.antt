@@ -3,7 +3,7 @@ use Rattle.std.proofs.{Common.{◌≡◌, ℕ, List, [], map, Option, Some, None
 use Rattle.std.specs.Prelude.{slice_get}
 use Rattle.pc_caps.specs.{declared.capability.Cap.Cap, declared.capability.Form.Form}
 use Rattle.pc_base.specs.{declared.span.Span.Span, Lists.{Differ, Text}}
-use Rattle.pc_tree.specs.{declared.kinds.MethodWord.MethodWord, Tree.{TypeRef, ParamDef}}
+use Rattle.pc_tree.specs.{declared.kinds.MethodWord.MethodWord, declared.written_names.TypeRef.TypeRef, declared.file.ParamDef.ParamDef}
 use Rattle.pc_tree.specs.declared.kinds.MethodWord.TheVariants as word
 use Rattle.pc_tree.specs.Tree as t
 use Rattle.pc_core.specs.{declared.declarations.FieldInfo.FieldInfo, declared.declarations.ParamInfo.ParamInfo, declared.nodes.Slot.Slot, declared.nodes.SlotKind.SlotKind, CoreData.CoreData}

@@ -3,7 +3,7 @@ use Rattle.std.proofs.{Common.{◌≡◌, ℕ, zero, suc, ◌+◌, ◌<◌, ◌�
 use Rattle.std.specs.{Prelude.{slice_get, position, codes}, Str.bytes_eq}
 use Rattle.pc_base.specs.{Limits.method_limit, Lists.{Has, Follow}}
 use Rattle.pc_base.proofs.{Gets.{map_get, get_map, get_append, get_below, get_within}, Elements.{ascends_none, has_front}}
-use Rattle.pc_tree.specs.{Tree.Name, Kinds.first_own}
+use Rattle.pc_tree.specs.{declared.written_names.Name.Name, Kinds.first_own}
 use Rattle.pc_tree.specs.Tree as t
 use Rattle.pc_core.specs.{declared.declarations.EntityDef.EntityDef, declared.declarations.Method.Method, CoreData.CoreData, Entities.HasBuiltIn}
 use Rattle.pc_members.specs.{Members.{IsAbove, IsTransitiveClosure, LeadsInFile, Member, built_in_names, entity_names, field_texts, method_texts}, Parts.or_nil, Founded.IsFounded, MemberLists.members}

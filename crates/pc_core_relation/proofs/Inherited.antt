@@ -3,7 +3,7 @@ use Rattle.std.proofs.Common.{◌≡◌, ℕ, zero, suc, ◌<◌, List, [], ◌�
 use Rattle.std.specs.Prelude.{slice_get}
 use Rattle.pc_base.specs.Lists.{Has}
 use Rattle.pc_base.proofs.Elements.{has_on}
-use Rattle.pc_tree.specs.{Tree.Name, Kinds.is_abstract}
+use Rattle.pc_tree.specs.{declared.written_names.Name.Name, Kinds.is_abstract}
 use Rattle.pc_tree.specs.Tree as t
 use Rattle.pc_members.specs.{Members.{has_added, IsTransitiveClosure, Member, written, without_body, own_texts}, Parts.{added_if, of_entity}, Founded.IsFounded, MemberLists.{firsts, entity_named, of_each, trait_methods, abstract_methods, methods_taken_over, taken_over, abstract_members, concrete_members, members}}
 use Rattle.pc_names.proofs.Founded.{collected_founded}

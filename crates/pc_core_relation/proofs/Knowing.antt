@@ -1,7 +1,7 @@
 -- What bodies know of a file's members by name is what they know when the core is made.
 use Rattle.std.proofs.Common.{◌≡◌, ℕ, suc, ◌+◌, List, [], ◌∷◌, ◌++◌, length, map, Bool, true, false, refl, sym, ap, ◌∙◌, append-nil, if◌then◌else◌}
 use Rattle.std.specs.{Prelude.{codes, filter}, Option.option_map_or, Str.bytes_eq}
-use Rattle.pc_tree.specs.{declared.kinds.EntityKind.EntityKind, Tree.ParamDef, Kinds.none_entity}
+use Rattle.pc_tree.specs.{declared.kinds.EntityKind.EntityKind, declared.file.ParamDef.ParamDef, Kinds.none_entity}
 use Rattle.pc_tree.specs.declared.kinds.EntityKind.TheVariants as kind
 use Rattle.pc_tree.specs.Tree as t
 use Rattle.pc_members.specs.{Members.{Member, written, added, member_text, built_in_names}, MemberLists.{is_constructor, members, member_span}}

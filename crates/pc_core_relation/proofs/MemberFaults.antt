@@ -3,7 +3,7 @@ use Rattle.std.proofs.{Common.{◌≡◌, ℕ, suc, ◌+◌, ◌<◌, ◌≤◌,
 use Rattle.std.specs.{Prelude.{flat_map, slice_get, nat_lt, Result, Ok, Err}, Option.option_map_or}
 use Rattle.pc_base.specs.{declared.span.Span.Span, Limits.{method_limit, node_limit}, Lists.{Has, one_if}}
 use Rattle.pc_base.proofs.{Elements.{has_on, differ_none}, Gets.{get_front, get_drop, get_map, map_get}}
-use Rattle.pc_tree.specs.{Tree.Name, Kinds.first_own}
+use Rattle.pc_tree.specs.{declared.written_names.Name.Name, Kinds.first_own}
 use Rattle.pc_tree.specs.Tree as t
 use Rattle.pc_core.specs.{declared.nodes.Node.Node, CoreData.CoreData}
 use Rattle.pc_members.specs.{Members.{Member, written, added, entity_names}, MemberLists.{members, member_span}, Edges.{above_all, edges_of}}

@@ -3,7 +3,7 @@ use Rattle.std.proofs.{Common.{◌≡◌, ℕ, zero, suc, ◌+◌, ◌<◌, ◌�
 use Rattle.std.specs.{Prelude.{slice_get, nat_lt, codes}, Str.bytes_eq}
 use Rattle.pc_base.specs.{Limits.{field_limit, method_limit}, Lists.{Has, Differ, Follow, Text}}
 use Rattle.pc_base.proofs.{Bools.true_false, Elements.{has_on, has_front}, Gets.{get_front, get_behind, get_below, get_append, get_drop, get_map}}
-use Rattle.pc_tree.specs.{Tree.{ParamDef, Name, TypeRef}, Kinds.{is_abstract, first_own}}
+use Rattle.pc_tree.specs.{declared.file.ParamDef.ParamDef, declared.written_names.Name.Name, declared.written_names.TypeRef.TypeRef, Kinds.{is_abstract, first_own}}
 use Rattle.pc_tree.specs.Tree as t
 use Rattle.pc_names.specs.{declared.fault.NameFault.NameFault, Faults.{either_fault, type_faults, provided_faults, field_faults, param_faults, signature_faults, method_faults, added_faults, entity_faults, entity_name_faults, declaration_faults, count_faults, cycle_faults, main_faults, name_faults}, Parts.{where_, result_faults, is_member_name, entities_faults, known_limit, method_count}, Mains.is_main}
 use Rattle.pc_names.specs.declared.fault.NameFault.TheVariants as fault

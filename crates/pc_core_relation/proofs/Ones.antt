@@ -5,7 +5,7 @@ use Rattle.pc_caps.specs.declared.capability.Cap.{Cap}
 use Rattle.pc_caps.specs.declared.capability.Cap.TheVariants as cap
 use Rattle.pc_base.specs.{declared.span.Span.Span, Lists.{Differ, Each, Follow, Text}}
 use Rattle.pc_base.proofs.{Cuts.drop_item, Elements.differ_none, Gets.{get_map, map_get, get_append, get_drop, get_range}, Ranges.run_within}
-use Rattle.pc_tree.specs.{declared.kinds.EntityKind.EntityKind, Tree.Name, Kinds.first_own}
+use Rattle.pc_tree.specs.{declared.kinds.EntityKind.EntityKind, declared.written_names.Name.Name, Kinds.first_own}
 use Rattle.pc_tree.specs.declared.kinds.EntityKind.TheVariants as kind
 use Rattle.pc_tree.specs.Tree as t
 use Rattle.pc_core.specs.{declared.declarations.EntityDef.EntityDef, declared.declarations.FieldInfo.FieldInfo, declared.declarations.Method.Method, declared.nodes.Node.Node, declared.nodes.Slot.Slot, CoreData.{CoreData, own_methods}, Entities.{print_method, built_in, built_in_value, out_field}}

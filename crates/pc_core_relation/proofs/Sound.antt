@@ -3,7 +3,7 @@ use Rattle.std.proofs.{Common.{◌≡◌, zero, suc, ◌||◌, List, [], ◌∷�
 use Rattle.std.specs.{Prelude.codes, Str.bytes_eq}
 use Rattle.pc_base.specs.Lists.{Has, Differ, Text}
 use Rattle.pc_base.proofs.{Cuts.{nil_left, nil_right}, Elements.differ_none, Gets.get_front}
-use Rattle.pc_tree.specs.Tree.{ParamDef, Name}
+use Rattle.pc_tree.specs.{declared.file.ParamDef.ParamDef, declared.written_names.Name.Name}
 use Rattle.pc_tree.specs.Tree as t
 use Rattle.pc_names.specs.{declared.fault.NameFault.NameFault, Faults.{either_fault, type_faults, provided_faults, field_faults, param_faults, signature_faults, method_faults, added_faults, entity_faults, entity_name_faults, declaration_faults, main_faults, NamesData, Collected}, Parts.{where_, entities_faults}, Mains.is_main}
 use Rattle.pc_names.specs.declared.fault.NameFault.TheVariants as fault

@@ -4,7 +4,7 @@ use Rattle.std.specs.{Prelude.{slice_get, position, option_to_list}, Str.bytes_e
 use Rattle.pc_caps.specs.declared.capability.Cap.{Cap}
 use Rattle.pc_base.specs.Lists.{Has, Differ, Text}
 use Rattle.pc_base.proofs.{Bools.true_false, Gets.{get_map, map_get}}
-use Rattle.pc_tree.specs.Tree.{Name, TypeRef}
+use Rattle.pc_tree.specs.{declared.written_names.Name.Name, declared.written_names.TypeRef.TypeRef}
 use Rattle.pc_core.specs.{declared.declarations.EntityDef.EntityDef, CoreData.CoreData}
 use Rattle.pc_members.specs.Edges.{entity_numbers}
 use Rattle.pc_body_spec.specs.{Bodies.KnownEntity, Parts.cap_or, Fold.type_of_name}

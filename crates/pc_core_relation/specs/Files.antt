@@ -2,7 +2,7 @@
 use Rattle.std.specs.Prelude.{◌≡◌, ℕ, List, length, Some, slice_get, ◌↔◌, Option, None, ◌+◌, [], ◌∷◌, suc, Bool, true, false, map, if◌then◌else◌, ◌≤◌, ◌++◌, codes, unwrap_or, ◌<◌, ◌-◌, ◌^◌, flat_map}
 use Rattle.pc_base.specs.{Limits.{slot_limit, entity_limit, field_limit, method_limit, node_limit}, Lists.{Text, Has, Differ, Each, Follow, one_if}}
 use Rattle.pc_caps.specs.{declared.capability.Cap.Cap, Tables.{plain, unalias}, declared.capability.Form.Form}
-use Rattle.pc_tree.specs.{Tree.{Name, TypeRef, ParamDef}, declared.kinds.EntityKind.EntityKind, declared.kinds.MethodWord.MethodWord, Kinds.{none_entity, at_kind, is_abstract, first_own}}
+use Rattle.pc_tree.specs.{declared.written_names.Name.Name, declared.written_names.TypeRef.TypeRef, declared.kinds.EntityKind.EntityKind, declared.kinds.MethodWord.MethodWord, declared.file.ParamDef.ParamDef, Kinds.{none_entity, at_kind, is_abstract, first_own}}
 use Rattle.pc_core.specs.{declared.declarations.EntityDef.EntityDef, CoreData.{CoreData, own_methods, own_slots, node_end}, declared.nodes.Node.Node, declared.declarations.Method.Method, declared.declarations.MethodKind.MethodKind, declared.declarations.ParamInfo.ParamInfo, declared.nodes.Slot.Slot, Entities.{constructor_kind, word_kind, this_slot, param_slot, HasBuiltIn}, declared.declarations.FieldInfo.FieldInfo}
 use Rattle.pc_body_spec.specs.{Slots.{Local, added_slots, initial_locals, local_kind, method_locals, slots_of, entities_texts}, Bodies.{Rose, Roses, rose, more as and_more, no_roses, node_of, body_of, added_body, Context, KnownEntity, Constructor, PlacedLocal}, Faults.{body_faults, initial_faults}}
 use Rattle.pc_members.specs.Members.{field_texts, Member, member_text, written, added, entity_names, InCycle, own_texts, method_texts, has_added, without_body, is_takable, IsTransitiveClosure}

@@ -1,7 +1,7 @@
 -- The first fault of a file's members: of their bodies, their slots and their nodes.
 use Rattle.std.specs.{Prelude.{◌≡◌, ◌≤◌, ℕ, suc, ◌+◌, ◌-◌, List, [], ◌∷◌, ◌++◌, map, filter, flat_map, drop, length, Some, None, slice_get, nat_lt, codes}, Option.option_map_or}
 use Rattle.pc_base.specs.{Limits.{method_limit, node_limit, slot_limit}, Lists.{Has, Text, one_if}}
-use Rattle.pc_tree.specs.{Tree.{ParamDef, Name}, declared.kinds.EntityKind.EntityKind}
+use Rattle.pc_tree.specs.{declared.file.ParamDef.ParamDef, declared.kinds.EntityKind.EntityKind, declared.written_names.Name.Name}
 use Rattle.pc_members.specs.{Members.{Member, written, added, member_text, field_texts, built_in_names}, MemberLists.is_constructor}
 use Rattle.pc_names.specs.declared.fault.NameFault.{NameFault}
 use Rattle.pc_body_spec.specs.{Bodies.{Context, KnownEntity, Rose, rose, Roses, no_roses, more, body_of}, Slots.{Local, method_locals}, Faults.{BodyNameFault, unknown, double, long_text, body_faults}}

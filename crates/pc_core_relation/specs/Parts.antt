@@ -1,7 +1,7 @@
 -- Parts of the definitions of cores, each with a name.
 use Rattle.std.specs.Prelude.{ℕ, List, [], ◌∷◌, ◌++◌, flat_map, map, slice_get, unwrap_or}
 use Rattle.pc_base.specs.Lists.{Text}
-use Rattle.pc_tree.specs.Tree.{ParamDef}
+use Rattle.pc_tree.specs.declared.file.ParamDef.{ParamDef}
 use Rattle.pc_members.specs.Members.{field_texts, method_texts}
 use Rattle.pc_body_spec.specs.Bodies.{KnownEntity}
 use Rattle.pc_core.specs.CoreData.{CoreData}

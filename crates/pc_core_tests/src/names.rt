@@ -1,8 +1,6 @@
 //! The names of files: their numbers, what is above them, and what no text spells.
-use pc_base::List;
+use pc_base::{List, ShortBytes};
 use pc_names::{NameFault, Names, collect};
-use pc_symbols::words::CREATE;
-use pc_symbols::{KeyedBy, Symbol, Symbols};
 use pc_test_inputs::{Wrong, core_of, tree_of};
 use pc_tree::{Entity, File};
 use std::alloc::{AllocError, Global};
@@ -57,30 +55,22 @@ struct Seen {
     create: Option<u32>,
 }
 
-// The number of the entity with this name.
-fn entity_named(file: &File, names: &Names, text: &[u8]) -> Option<u32> {
-    names.entity(&file.symbols, file.symbols.find(text)?)
-}
-
-fn seen_of(file: &File, names: &Names) -> Seen {
+fn seen_of(names: &Names) -> Seen {
     Seen {
         entities: names.entity_count(),
         first: (
-            entity_named(file, names, b"None"),
-            entity_named(file, names, b"Main"),
-            entity_named(file, names, b"T000"),
+            names.entity(b"None"),
+            names.entity(b"Main"),
+            names.entity(b"T000"),
         ),
-        last: (
-            entity_named(file, names, b"T998"),
-            entity_named(file, names, b"T999"),
-        ),
+        last: (names.entity(b"T998"), names.entity(b"T999")),
         above: (
             above_count(names, 7),
             above_count(names, 1_005),
             above_count(names, 1_006),
         ),
         texts: names.text_count(),
-        create: names.text(&file.symbols, file.symbols.word(CREATE)),
+        create: names.text(b"create"),
     }
 }
 
@@ -96,7 +86,7 @@ const WHOLE_CHAIN: Seen = Seen {
 
 fn seen_in_file(alloc: Global, file: &File) -> Result<Seen, Wrong> {
     let names = collect(alloc, file)?;
-    Ok(seen_of(file, &names))
+    Ok(seen_of(&names))
 }
 
 fn seen_in_text(alloc: Global, text: &[u8]) -> Result<Seen, Wrong> {
@@ -135,20 +125,18 @@ fn fault_of(alloc: Global, file: &File) -> Option<NameFault> {
 // A file without entities, which no text spells.
 fn fault_of_nothing(alloc: Global) -> Option<NameFault> {
     let entities = List::new(alloc);
-    let symbols = Symbols::new(alloc, KeyedBy::nothing()).ok()?;
-    fault_of(alloc, &File { symbols, entities })
+    fault_of(alloc, &File { entities })
 }
 
-fn named(mut entity: Entity, name: Symbol) -> Entity {
-    entity.name.symbol = name;
-    entity
+fn named(alloc: Global, mut entity: Entity, name: &[u8]) -> Result<Entity, AllocError> {
+    entity.name.text = ShortBytes::from_slice(alloc, name)?;
+    Ok(entity)
 }
 
 // The last entity of a file gets this name.
-fn rename_last(file: &mut File, name: &[u8]) -> Result<(), AllocError> {
-    let symbol = file.symbols.intern(name)?;
+fn rename_last(alloc: Global, file: &mut File, name: &[u8]) -> Result<(), AllocError> {
     match file.entities.pop() {
-        Some(entity) => file.entities.push(named(entity, symbol)),
+        Some(entity) => file.entities.push(named(alloc, entity, name)?),
         None => Ok(()),
     }
 }
@@ -156,7 +144,7 @@ fn rename_last(file: &mut File, name: &[u8]) -> Result<(), AllocError> {
 // What is wrong with a file whose one actor is called `main`, which no text spells.
 fn fault_of_small_main(alloc: Global) -> Result<Option<NameFault>, Wrong> {
     let mut file = tree_of(alloc, MAIN)?;
-    rename_last(&mut file, b"main")?;
+    rename_last(alloc, &mut file, b"main")?;
     Ok(fault_of(alloc, &file))
 }
 

@@ -1,7 +1,7 @@
 -- The elaboration of the members of a file, in terms of the code.
 use Rattle.std.specs.Prelude.{◌≡◌, ℕ, suc, List, [], ◌∷◌, ◌++◌, map, length, Option, Some, None, Result, Ok, Err, slice_get, ◌-◌}
 use Rattle.pc_base.specs.{declared.span.Span.Span, Limits.slot_limit}
-use Rattle.pc_tree.specs.Tree.{Name}
+use Rattle.pc_tree.specs.declared.written_names.Name.{Name}
 use Rattle.pc_core.specs.declared.nodes.Node.{Node}
 use Rattle.pc_names.specs.declared.fault.NameFault.{NameFault}
 use Rattle.pc_body_walks.specs.declared.fault.BodyFault.{BodyFault}

@@ -1,7 +1,5 @@
 //! The core of a file.
 ghost use Rattle.std.specs.Prelude.{◌≡◌, ◌<◌, ◌^◌, map, length, IfOk, IfErr};
-ghost use Rattle.pc_names.specs.NameSymbols.{names_view};
-ghost use Rattle.pc_resolve.specs.Symbolic.{context_view};
 ghost use Rattle.pc_tree.specs.View.{file_view};
 ghost use Rattle.pc_core.specs.Formed.{Formed};
 ghost use Rattle.pc_names.specs.Faults.{Collected};
@@ -41,16 +39,15 @@ fn make_context(
     names: &Names,
     table: &[List<Member>],
 ) -> Result<Context, AllocError>
-    requires collected { Collected (file_view file.now) (names_view file.now.symbols names.now) }
-    requires members { table_view file.now.symbols table.now ≡ map (members (file_view file.now).entities) (file_view file.now).entities }
-    ensures entities { IfOk result (λ c. (context_view file.now.symbols c).entities ≡ known_of (file_view file.now)) }
-    ensures texts { IfOk result (λ c. (context_view file.now.symbols c).texts ≡ texts_of_file (file_view file.now)) }
+    requires collected { Collected (file_view file.now) names.now }
+    requires members { table_view table.now ≡ map (members (file_view file.now).entities) (file_view file.now).entities }
+    ensures entities { IfOk result (λ c. c.entities ≡ known_of (file_view file.now)) }
+    ensures texts { IfOk result (λ c. c.texts ≡ texts_of_file (file_view file.now)) }
 {
-    let entities = list_known(alloc, &file.symbols, file.entities.as_slice(), table)?;
+    let entities = list_known(alloc, file.entities.as_slice(), table)?;
     let texts = table_texts(alloc, names.entities(), file)?;
     Context::new(
         alloc,
-        &file.symbols,
         List::new(alloc),
         List::new(alloc),
         entities,
@@ -65,8 +62,8 @@ fn members_of<'a>(
     file: &'a File,
     names: &Names,
 ) -> Result<List<List<Member<'a>>>, AllocError>
-    requires { Collected (file_view file.now) (names_view file.now.symbols names.now) }
-    ensures { IfOk result (λ l. table_view file.now.symbols l ≡ map (members (file_view file.now).entities) (file_view file.now).entities) }
+    requires { Collected (file_view file.now) names.now }
+    ensures { IfOk result (λ l. table_view l ≡ map (members (file_view file.now).entities) (file_view file.now).entities) }
 {
     list_members(alloc, names.entities(), names.all_above(), file)
 }
@@ -81,18 +78,18 @@ fn make_parts(
     table: &[List<Member>],
     context: &mut Context,
 ) -> Result<Made, NameFault>
-    requires collected { Collected (file_view file.now) (names_view file.now.symbols names.now) }
-    requires members { table_view file.now.symbols table.now ≡ map (members (file_view file.now).entities) (file_view file.now).entities }
-    requires entities { (context_view file.now.symbols context.old).entities ≡ known_of (file_view file.now) }
-    requires texts { (context_view file.now.symbols context.old).texts ≡ texts_of_file (file_view file.now) }
+    requires collected { Collected (file_view file.now) names.now }
+    requires members { table_view table.now ≡ map (members (file_view file.now).entities) (file_view file.now).entities }
+    requires entities { context.old.entities ≡ known_of (file_view file.now) }
+    requires texts { context.old.texts ≡ texts_of_file (file_view file.now) }
     ensures core { spec.Makes result (core_of names.now.above (file_view file.now)) }
     ensures few { IfOk result (λ m. length m.names < 2 ^ 32) }
 {
     let mut parts = built_in_parts(alloc)?;
     let own = file.entities.as_slice();
-    add_entities(alloc, &file.symbols, context, &mut parts, own, table)?;
-    let entities = list_entities(alloc, &file.symbols, context, names, own, table)?;
-    let names = list_texts(alloc, &file.symbols, context.texts())?;
+    add_entities(alloc, context, &mut parts, own, table)?;
+    let entities = list_entities(alloc, context, names, own, table)?;
+    let names = list_texts(alloc, context.texts())?;
     Ok(Made {
         entities,
         parts,
@@ -107,8 +104,8 @@ fn make_with(
     names: &Names,
     table: &[List<Member>],
 ) -> Result<Made, NameFault>
-    requires collected { Collected (file_view file.now) (names_view file.now.symbols names.now) }
-    requires members { table_view file.now.symbols table.now ≡ map (members (file_view file.now).entities) (file_view file.now).entities }
+    requires collected { Collected (file_view file.now) names.now }
+    requires members { table_view table.now ≡ map (members (file_view file.now).entities) (file_view file.now).entities }
     ensures core { spec.Makes result (core_of names.now.above (file_view file.now)) }
     ensures few { IfOk result (λ m. length m.names < 2 ^ 32) }
 {
@@ -120,7 +117,7 @@ fn make_with(
 
 /// The parts of a file's core, or the first fault of its members.
 pub(crate) fn make(alloc: Global, file: &File, names: &Names) -> Result<Made, NameFault>
-    requires { Collected (file_view file.now) (names_view file.now.symbols names.now) }
+    requires { Collected (file_view file.now) names.now }
     ensures core { spec.Makes result (core_of names.now.above (file_view file.now)) }
     ensures few { IfOk result (λ m. length m.names < 2 ^ 32) }
 {
@@ -153,7 +150,7 @@ fn finish(alloc: Global, made: Made) -> Result<Core, AllocError>
 /// 200,000 nodes. Memory may run out at any time.
 pub fn elaborate(alloc: Global, file: &File, names: &Names) -> Result<Core, NameFault>
     requires spelled { spec.IsSpelledFile (file_view file.now) }
-    requires collected { Collected (file_view file.now) (names_view file.now.symbols names.now) }
+    requires collected { Collected (file_view file.now) names.now }
     ensures core { IfOk result (λ c. Stands (file_view file.now) c) }
     ensures fault { IfErr result (spec.IsFirstFault (file_view file.now)) }
 {

@@ -4,15 +4,12 @@ ghost use Rattle.pc_tree.specs.View.{entity_view};
 ghost use Rattle.pc_file_spec.specs.Cores as spec;
 ghost use Rattle.pc_body_spec.specs.Parts.{cap_or as either_cap};
 ghost use Rattle.pc_members.specs.Views.{members_view, table_view};
-ghost use Rattle.pc_resolve.specs.Symbolic.{constructors_view, known_view, known_entities_view};
 ghost use Rattle.pc_elab.specs.Rows as rows;
 
-use pc_base::List;
+use pc_base::{List, ShortBytes};
 use pc_caps::Cap;
 use pc_members::Member;
 use pc_resolve::{Constructor, Constructors, Known};
-use pc_symbols::words::{BOOL, ENV, NONE, OUT_STREAM, STRING, U64};
-use pc_symbols::{Symbol, Symbols};
 use pc_tree::{Entity, EntityKind};
 use std::alloc::{AllocError, Global};
 
@@ -41,12 +38,8 @@ pub(crate) fn default_cap(kind: EntityKind, written: Option<Cap>) -> Cap
 }
 
 /// The number after those of these members, of which the first has this number.
-pub(crate) fn number_after(
-    symbols: &Symbols,
-    first: u32,
-    members: &[Member],
-) -> Result<u32, AllocError>
-    ensures { IfOk result (λ n. n ≡ first + length (members_view symbols.now members.now)) }
+pub(crate) fn number_after(first: u32, members: &[Member]) -> Result<u32, AllocError>
+    ensures { IfOk result (λ n. n ≡ first + length (members_view members.now)) }
 {
     if members.len() > (MOST_METHODS - first) as usize {
         return Err(AllocError);
@@ -57,18 +50,17 @@ pub(crate) fn number_after(
 // The constructors among these members, of which the first has this number among the methods.
 fn list_constructors(
     alloc: Global,
-    symbols: &Symbols,
     first: u32,
     members: &[Member],
 ) -> Result<List<Constructor>, AllocError>
-    requires { first + length (members_view symbols.now members.now) < 2 ^ 32 }
-    ensures { IfOk result (λ l. constructors_view symbols.now l ≡ spec.constructors_from first (members_view symbols.now members.now)) }
+    requires { first + length (members_view members.now) < 2 ^ 32 }
+    ensures { IfOk result (λ l. l ≡ spec.constructors_from first (members_view members.now)) }
 {
     let mut constructors = List::new(alloc);
     let mut number = first;
     for member in members {
-        if member.is_constructor(symbols) {
-            let name = member.symbol(symbols);
+        if member.is_constructor() {
+            let name = ShortBytes::from_slice(alloc, member.text())?;
             constructors.push(Constructor::new(name, number))?;
         }
         number += 1;
@@ -79,21 +71,16 @@ fn list_constructors(
 // What bodies know of an entity with these members, of which the first has this number among the methods.
 fn make_known(
     alloc: Global,
-    symbols: &Symbols,
     first: u32,
     entity: &Entity,
     members: &[Member],
 ) -> Result<Known, AllocError>
-    requires { first + length (members_view symbols.now members.now) < 2 ^ 32 }
-    ensures { IfOk result (λ k. known_view symbols.now k ≡ rows.known_with first (entity_view symbols.now entity.now) (members_view symbols.now members.now)) }
+    requires { first + length (members_view members.now) < 2 ^ 32 }
+    ensures { IfOk result (λ k. k ≡ rows.known_with first (entity_view entity.now) (members_view members.now)) }
 {
-    let name = entity.name.symbol;
+    let name = ShortBytes::from_slice(alloc, entity.name.text.as_slice())?;
     let cap = default_cap(entity.kind, entity.cap);
-    let constructors = Constructors::of(
-        alloc,
-        symbols,
-        list_constructors(alloc, symbols, first, members)?,
-    )?;
+    let constructors = Constructors::of(alloc, list_constructors(alloc, first, members)?)?;
     Ok(Known::new(name, entity.kind, cap, constructors))
 }
 
@@ -101,80 +88,46 @@ fn make_known(
 fn add_built_in(
     alloc: Global,
     known: &mut List<Known>,
-    name: Symbol,
+    name: &[u8],
     kind: EntityKind,
     cap: Cap,
 ) -> Result<(), AllocError>
-    ensures { OnOk result (known.new ≡ known.old ++ record { name = name.number; kind = kind; cap = cap; constructors = [] } ∷ []) }
+    ensures { OnOk result (known.new ≡ known.old ++ record { name = name.now; kind = kind; cap = cap; constructors = [] } ∷ []) }
 {
+    let name = ShortBytes::from_slice(alloc, name)?;
     known.push(Known::new(name, kind, cap, Constructors::new(alloc)))
 }
 
 // Adds the built-in entities to an empty list.
-fn add_all_built_in(
-    alloc: Global,
-    symbols: &Symbols,
-    known: &mut List<Known>,
-) -> Result<(), AllocError>
+fn add_all_built_in(alloc: Global, known: &mut List<Known>) -> Result<(), AllocError>
     requires { known.old ≡ [] }
-    ensures { OnOk result (known_entities_view symbols.now known.new ≡ spec.built_in_known) }
+    ensures { OnOk result (known.new ≡ spec.built_in_known) }
 {
-    add_built_in(
-        alloc,
-        known,
-        symbols.word(NONE),
-        EntityKind::Primitive,
-        Cap::Val,
-    )?;
-    add_built_in(
-        alloc,
-        known,
-        symbols.word(U64),
-        EntityKind::Primitive,
-        Cap::Val,
-    )?;
-    add_built_in(
-        alloc,
-        known,
-        symbols.word(BOOL),
-        EntityKind::Primitive,
-        Cap::Val,
-    )?;
-    add_built_in(
-        alloc,
-        known,
-        symbols.word(STRING),
-        EntityKind::Primitive,
-        Cap::Val,
-    )?;
-    add_built_in(alloc, known, symbols.word(ENV), EntityKind::Class, Cap::Val)?;
-    add_built_in(
-        alloc,
-        known,
-        symbols.word(OUT_STREAM),
-        EntityKind::Actor,
-        Cap::Tag,
-    )
+    add_built_in(alloc, known, b"None", EntityKind::Primitive, Cap::Val)?;
+    add_built_in(alloc, known, b"U64", EntityKind::Primitive, Cap::Val)?;
+    add_built_in(alloc, known, b"Bool", EntityKind::Primitive, Cap::Val)?;
+    add_built_in(alloc, known, b"String", EntityKind::Primitive, Cap::Val)?;
+    add_built_in(alloc, known, b"Env", EntityKind::Class, Cap::Val)?;
+    add_built_in(alloc, known, b"OutStream", EntityKind::Actor, Cap::Tag)
 }
 
 // Adds the built-in entities and those of the file, given the table of their members, to an empty list.
 fn add_known(
     alloc: Global,
-    symbols: &Symbols,
     known: &mut List<Known>,
     entities: &[Entity],
     table: &[List<Member>],
 ) -> Result<(), AllocError>
     requires rows { length table.now ≡ length entities.now }
     requires none { known.old ≡ [] }
-    ensures { OnOk result (known_entities_view symbols.now known.new ≡ spec.built_in_known ++ rows.known_rows 1 (map (entity_view symbols.now) entities.now) (table_view symbols.now table.now)) }
+    ensures { OnOk result (known.new ≡ spec.built_in_known ++ rows.known_rows 1 (map entity_view entities.now) (table_view table.now)) }
 {
-    add_all_built_in(alloc, symbols, known)?;
+    add_all_built_in(alloc, known)?;
     let mut first = 1;
     for at in 0..entities.len() {
         let members = table[at].as_slice();
-        let after = number_after(symbols, first, members)?;
-        known.push(make_known(alloc, symbols, first, &entities[at], members)?)?;
+        let after = number_after(first, members)?;
+        known.push(make_known(alloc, first, &entities[at], members)?)?;
         first = after;
     }
     Ok(())
@@ -183,13 +136,12 @@ fn add_known(
 /// The built-in entities, followed by those of the file, given the table of their members.
 pub(crate) fn list_known(
     alloc: Global,
-    symbols: &Symbols,
     entities: &[Entity],
     table: &[List<Member>],
 ) -> Result<List<Known>, AllocError>
     requires { length table.now ≡ length entities.now }
-    ensures { IfOk result (λ l. known_entities_view symbols.now l ≡ spec.built_in_known ++ rows.known_rows 1 (map (entity_view symbols.now) entities.now) (table_view symbols.now table.now)) }
+    ensures { IfOk result (λ l. l ≡ spec.built_in_known ++ rows.known_rows 1 (map entity_view entities.now) (table_view table.now)) }
 {
     let mut known = List::new(alloc);
-    add_known(alloc, symbols, &mut known, entities, table).and(Ok(known))
+    add_known(alloc, &mut known, entities, table).and(Ok(known))
 }

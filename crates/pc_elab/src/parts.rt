@@ -1,6 +1,5 @@
 //! The methods of a program with their slots and nodes, member by member.
 ghost use Rattle.std.specs.Prelude.{◌≡◌, slice_get, IfOk, OnOk};
-ghost use Rattle.pc_resolve.specs.Symbolic.{context_view};
 ghost use Rattle.pc_tree.specs.View.{entity_view};
 ghost use Rattle.pc_body_walks.specs.Checking.{TellsFirstBodyFault};
 ghost use Rattle.pc_emit.specs.Giving.{GivesBody};
@@ -21,7 +20,6 @@ use pc_emit::{EmitStop, emit, emit_added};
 use pc_members::Member;
 use pc_names::{NameFault, Which};
 use pc_resolve::Context;
-use pc_symbols::Symbols;
 use pc_tree::{Entity, MethodWord};
 use std::alloc::{AllocError, Global};
 
@@ -65,27 +63,26 @@ fn name_fault(fault: BodyFault) -> NameFault
 #[tactic(auto, using(crate::proofs::Behind::nothing_behind))]
 fn check_body(
     alloc: Global,
-    symbols: &Symbols,
     context: &Context,
     entity: &Entity,
     member: Member,
 ) -> Result<(), BodyFault>
-    ensures { TellsFirstBodyFault result (spec.member_faults (context_view symbols.now context.now) (entity_view symbols.now entity.now) (member_view symbols.now member.entry)) }
+    ensures { TellsFirstBodyFault result (spec.member_faults context.now (entity_view entity.now) (member_view member.entry)) }
 {
     let fields = entity.fields.as_slice();
     match member {
-        Member::Written(method) => check(alloc, symbols, context, fields, method),
+        Member::Written(method) => check(alloc, context, fields, method),
         Member::Bodiless(method) => match method.word {
-            MethodWord::New => check_added(alloc, symbols, context, fields),
+            MethodWord::New => check_added(alloc, context, fields),
             MethodWord::Fun | MethodWord::Be => Ok(()),
         },
-        Member::Added => check_added(alloc, symbols, context, fields),
+        Member::Added => check_added(alloc, context, fields),
     }
 }
 
 // The span of the name of the 65th slot, if a member with these locals has that many.
-fn extra_slot(symbols: &Symbols, member: Member, locals: &[Local]) -> Option<Span>
-    ensures { result ≡ spec.extra_slot (member_view symbols.now member.entry) locals.now }
+fn extra_slot(member: Member, locals: &[Local]) -> Option<Span>
+    ensures { result ≡ spec.extra_slot (member_view member.entry) locals.now }
 {
     match member {
         Member::Written(method) | Member::Bodiless(method) => match method.params.get(EXTRA_SLOT) {
@@ -109,29 +106,20 @@ fn local_at(locals: &[Local], index: usize) -> Option<Span>
 // Emits the nodes of a member that is this method, after the others. A trait's method has none.
 fn put_body(
     alloc: Global,
-    symbols: &Symbols,
     context: &Context,
     method: u32,
     nodes: &mut List<Node>,
     entity: &Entity,
     member: Member,
 ) -> Result<Option<u32>, EmitStop>
-    ensures { GivesBody result nodes.new (spec.member_rose (context_view symbols.now context.now) (entity_view symbols.now entity.now) (member_view symbols.now member.entry)) method nodes.old }
+    ensures { GivesBody result nodes.new (spec.member_rose context.now (entity_view entity.now) (member_view member.entry)) method nodes.old }
 {
     let fields = entity.fields.as_slice();
     match member {
-        Member::Written(written) => emit(alloc, symbols, context, method, nodes, fields, written),
+        Member::Written(written) => emit(alloc, context, method, nodes, fields, written),
         Member::Bodiless(_) => Ok(None),
         Member::Added => {
-            let body = emit_added(
-                alloc,
-                symbols,
-                context,
-                method,
-                nodes,
-                fields,
-                entity.name.span,
-            )?;
+            let body = emit_added(alloc, context, method, nodes, fields, entity.name.span)?;
             Ok(Some(body))
         }
     }
@@ -142,17 +130,16 @@ fn put_body(
 #[tactic(auto, using(crate::proofs::Outcomes::no_fault))]
 fn check_member(
     alloc: Global,
-    symbols: &Symbols,
     context: &Context,
     entity: &Entity,
     member: Member,
     locals: &[Local],
 ) -> Result<(), NameFault>
-    ensures { spec.PassesOrStops result (spec.before_nodes (context_view symbols.now context.now) (entity_view symbols.now entity.now) (member_view symbols.now member.entry) locals.now) }
+    ensures { spec.PassesOrStops result (spec.before_nodes context.now (entity_view entity.now) (member_view member.entry) locals.now) }
 {
-    match check_body(alloc, symbols, context, entity, member) {
+    match check_body(alloc, context, entity, member) {
         Err(fault) => Err(name_fault(fault)),
-        Ok(()) => match extra_slot(symbols, member, locals) {
+        Ok(()) => match extra_slot(member, locals) {
             Some(span) => Err(NameFault::TooMany(Which::Slots, span)),
             None => Ok(()),
         },
@@ -162,7 +149,6 @@ fn check_member(
 // Emits the body of a member with these locals as this method, after the other nodes, or returns its first fault.
 fn member_outcome(
     alloc: Global,
-    symbols: &Symbols,
     context: &Context,
     method: u32,
     nodes: &mut List<Node>,
@@ -170,15 +156,12 @@ fn member_outcome(
     member: Member,
     locals: &[Local],
 ) -> Result<Option<u32>, NameFault>
-    ensures { spec.Becomes result nodes.new (spec.outcome_with (context_view symbols.now context.now) method (entity_view symbols.now entity.now) (member_view symbols.now member.entry) locals.now nodes.old) }
+    ensures { spec.Becomes result nodes.new (spec.outcome_with context.now method (entity_view entity.now) (member_view member.entry) locals.now nodes.old) }
 {
-    check_member(alloc, symbols, context, entity, member, locals)?;
-    match put_body(alloc, symbols, context, method, nodes, entity, member) {
+    check_member(alloc, context, entity, member, locals)?;
+    match put_body(alloc, context, method, nodes, entity, member) {
         Ok(body) => Ok(body),
-        Err(EmitStop::Full) => Err(NameFault::TooMany(
-            Which::Nodes,
-            member.span(symbols, entity.name.span),
-        )),
+        Err(EmitStop::Full) => Err(NameFault::TooMany(Which::Nodes, member.span(entity.name.span))),
         Err(EmitStop::Memory) => Err(NameFault::Memory),
     }
 }
@@ -200,7 +183,6 @@ struct Places {
 
 // A member of the entity with this number as a method, with these parameters and places.
 fn declare(
-    symbols: &Symbols,
     context: &Context,
     number_of_entity: u32,
     entity: &Entity,
@@ -208,28 +190,27 @@ fn declare(
     params: List<ParamInfo>,
     places: Places,
 ) -> Method
-    requires { params ≡ signatures.params_of (context_view symbols.now context.now).entities (member_view symbols.now member) }
-    ensures { result ≡ signatures.declared (context_view symbols.now context.now) (owned number_of_entity (entity_view symbols.now entity.now) (member_view symbols.now member.entry)) places.first_slot places.slots places.nodes.first places.nodes.body }
+    requires { params ≡ signatures.params_of context.now.entities (member_view member) }
+    ensures { result ≡ signatures.declared context.now (owned number_of_entity (entity_view entity.now) (member_view member.entry)) places.first_slot places.slots places.nodes.first places.nodes.body }
 {
     Method {
         entity: number_of_entity,
-        name: context.text_of(symbols, member.symbol(symbols)),
-        kind: kind_of(symbols, entity.kind, member),
-        receiver: receiver_of(symbols, member),
+        name: context.text_of(member.text()),
+        kind: kind_of(entity.kind, member),
+        receiver: receiver_of(member),
         params,
-        result: result_of(symbols, context, entity.kind, number_of_entity, member),
+        result: result_of(context, entity.kind, number_of_entity, member),
         first_slot: places.first_slot,
         slots: places.slots,
         first_node: places.nodes.first,
         body: places.nodes.body,
-        span: member.span(symbols, entity.name.span),
+        span: member.span(entity.name.span),
     }
 }
 
 // Appends the method and the slots of a member of the entity with this number. Its nodes are there already.
 fn join(
     alloc: Global,
-    symbols: &Symbols,
     context: &Context,
     parts: &mut Parts,
     number_of_entity: u32,
@@ -238,15 +219,14 @@ fn join(
     locals: &[Local],
     nodes: Nodes,
 ) -> Result<(), AllocError>
-    requires { locals.now ≡ signatures.member_locals (entity_view symbols.now entity.now) (member_view symbols.now member) }
-    ensures { OnOk result (parts_view parts.new ≡ spec.joined_with (context_view symbols.now context.now) (parts_view parts.old) (owned number_of_entity (entity_view symbols.now entity.now) (member_view symbols.now member.entry)) nodes.first nodes.body) }
+    requires { locals.now ≡ signatures.member_locals (entity_view entity.now) (member_view member) }
+    ensures { OnOk result (parts_view parts.new ≡ spec.joined_with context.now (parts_view parts.old) (owned number_of_entity (entity_view entity.now) (member_view member.entry)) nodes.first nodes.body) }
 {
     let method = number(parts.methods.len())?;
     let first_slot = number(parts.slots.len())?;
-    let params = params_of(alloc, symbols, context, member)?;
+    let params = params_of(alloc, context, member)?;
     let slots = &mut parts.slots;
     add_slots(
-        symbols,
         context,
         slots,
         method,
@@ -261,15 +241,7 @@ fn join(
         slots: behind - first_slot,
         nodes,
     };
-    let declared = declare(
-        symbols,
-        context,
-        number_of_entity,
-        entity,
-        member,
-        params,
-        places,
-    );
+    let declared = declare(context, number_of_entity, entity, member, params, places);
     parts.methods.push(declared)?;
     Ok(())
 }
@@ -277,7 +249,6 @@ fn join(
 /// Appends a member of the entity with this number, with these locals, or reports its first fault.
 pub(crate) fn add_member(
     alloc: Global,
-    symbols: &Symbols,
     context: &Context,
     parts: &mut Parts,
     number_of_entity: u32,
@@ -285,19 +256,16 @@ pub(crate) fn add_member(
     member: Member,
     locals: &[Local],
 ) -> Result<(), NameFault>
-    requires { locals.now ≡ signatures.member_locals (entity_view symbols.now entity.now) (member_view symbols.now member) }
-    ensures { spec.Grows result (parts_view parts.new) (and_member (context_view symbols.now context.now) (parts_view parts.old) (owned number_of_entity (entity_view symbols.now entity.now) (member_view symbols.now member.entry))) }
+    requires { locals.now ≡ signatures.member_locals (entity_view entity.now) (member_view member) }
+    ensures { spec.Grows result (parts_view parts.new) (and_member context.now (parts_view parts.old) (owned number_of_entity (entity_view entity.now) (member_view member.entry))) }
 {
     let method = number(parts.methods.len())?;
     let first = number(parts.nodes.len())?;
     let nodes = &mut parts.nodes;
-    let body = member_outcome(
-        alloc, symbols, context, method, nodes, entity, member, locals,
-    )?;
+    let body = member_outcome(alloc, context, method, nodes, entity, member, locals)?;
     let nodes = Nodes { first, body };
     join(
         alloc,
-        symbols,
         context,
         parts,
         number_of_entity,

@@ -1,7 +1,6 @@
 //! What a member declares.
 ghost use Rattle.std.specs.Prelude.{◌≡◌, map, IfOk};
-ghost use Rattle.pc_resolve.specs.Symbolic.{context_view};
-ghost use Rattle.pc_tree.specs.View.{type_view, maybe_type_view, param_view, method_view};
+ghost use Rattle.pc_tree.specs.View.{method_view};
 ghost use Rattle.pc_core.specs.Entities as core_spec;
 ghost use Rattle.pc_file_spec.specs.Cores as spec;
 ghost use Rattle.pc_members.specs.Views.{member_view};
@@ -12,15 +11,14 @@ use pc_caps::{Cap, Form, plain, unalias};
 use pc_core::{MethodKind, ParamInfo};
 use pc_members::Member;
 use pc_resolve::Context;
-use pc_symbols::Symbols;
 use pc_tree::{EntityKind, MethodDef, MethodWord, NONE_ENTITY, ParamDef, TypeRef};
 use std::alloc::{AllocError, Global};
 
 /// A type among the entities of a file. If the names of the file have no fault, every type is there.
-pub(crate) fn type_in(symbols: &Symbols, context: &Context, ty: &TypeRef) -> (u32, Cap)
-    ensures { result ≡ spec.type_in (context_view symbols.now context.now).entities (type_view symbols.now ty.now) }
+pub(crate) fn type_in(context: &Context, ty: &TypeRef) -> (u32, Cap)
+    ensures { result ≡ spec.type_in context.now.entities ty.now }
 {
-    match context.type_of(symbols, ty) {
+    match context.type_of(ty) {
         Some(written) => written,
         None => (NONE_ENTITY, Cap::Val),
     }
@@ -28,10 +26,10 @@ pub(crate) fn type_in(symbols: &Symbols, context: &Context, ty: &TypeRef) -> (u3
 
 // ---- parameters, receiver and result
 
-fn param_of(symbols: &Symbols, context: &Context, param: &ParamDef) -> ParamInfo
-    ensures { result ≡ spec.param_of (context_view symbols.now context.now).entities (param_view symbols.now param.now) }
+fn param_of(context: &Context, param: &ParamDef) -> ParamInfo
+    ensures { result ≡ spec.param_of context.now.entities param.now }
 {
-    let (entity, cap) = type_in(symbols, context, &param.ty);
+    let (entity, cap) = type_in(context, &param.ty);
     ParamInfo {
         entity,
         cap,
@@ -41,15 +39,14 @@ fn param_of(symbols: &Symbols, context: &Context, param: &ParamDef) -> ParamInfo
 
 fn list_params(
     alloc: Global,
-    symbols: &Symbols,
     context: &Context,
     params: &[ParamDef],
 ) -> Result<List<ParamInfo>, AllocError>
-    ensures { IfOk result (λ l. l ≡ map (spec.param_of (context_view symbols.now context.now).entities) (map (param_view symbols.now) params.now)) }
+    ensures { IfOk result (λ l. l ≡ map (spec.param_of context.now.entities) params.now) }
 {
     let mut list = List::new(alloc);
     for param in params {
-        list.push_within(params.len(), param_of(symbols, context, param))?;
+        list.push_within(params.len(), param_of(context, param))?;
     }
     Ok(list)
 }
@@ -57,16 +54,14 @@ fn list_params(
 /// The parameters of a member.
 pub(crate) fn params_of(
     alloc: Global,
-    symbols: &Symbols,
     context: &Context,
     member: Member,
 ) -> Result<List<ParamInfo>, AllocError>
-    ensures { IfOk result (λ l. l ≡ spec.params_of (context_view symbols.now context.now).entities (member_view symbols.now member.entry)) }
+    ensures { IfOk result (λ l. l ≡ spec.params_of context.now.entities (member_view member.entry)) }
 {
     match member {
         Member::Written(method) | Member::Bodiless(method) => list_params(
             alloc,
-            symbols,
             context,
             method.params.as_slice(),
         ),
@@ -86,8 +81,8 @@ fn constructor_kind(entity: EntityKind) -> MethodKind
 }
 
 /// The kind of a member of an entity of this kind.
-pub(crate) fn kind_of(symbols: &Symbols, entity: EntityKind, member: Member) -> MethodKind
-    ensures { result ≡ spec.kind_of entity (member_view symbols.now member.entry) }
+pub(crate) fn kind_of(entity: EntityKind, member: Member) -> MethodKind
+    ensures { result ≡ spec.kind_of entity (member_view member.entry) }
 {
     match member {
         Member::Written(method) | Member::Bodiless(method) => match method.word {
@@ -101,8 +96,8 @@ pub(crate) fn kind_of(symbols: &Symbols, entity: EntityKind, member: Member) -> 
 
 /// The capability of `this` in a member: `box` in a function without a written capability, and `ref` in behaviours and
 /// constructors.
-pub(crate) fn receiver_of(symbols: &Symbols, member: Member) -> Cap
-    ensures { result ≡ spec.receiver_cap (member_view symbols.now member.entry) }
+pub(crate) fn receiver_of(member: Member) -> Cap
+    ensures { result ≡ spec.receiver_cap (member_view member.entry) }
 {
     match member {
         Member::Written(method) | Member::Bodiless(method) => match method.word {
@@ -121,12 +116,12 @@ fn result_form(hat: bool, cap: Cap) -> Form
 }
 
 // The result of a function, which is None if nothing is written.
-fn written_result(symbols: &Symbols, context: &Context, ty: &Option<TypeRef>) -> (u32, Form)
-    ensures { result ≡ spec.written_result (context_view symbols.now context.now).entities (maybe_type_view symbols.now ty.now) }
+fn written_result(context: &Context, ty: &Option<TypeRef>) -> (u32, Form)
+    ensures { result ≡ spec.written_result context.now.entities ty.now }
 {
     match ty {
         Some(ty) => {
-            let (entity, cap) = type_in(symbols, context, ty);
+            let (entity, cap) = type_in(context, ty);
             (entity, result_form(ty.hat, cap))
         }
         None => (NONE_ENTITY, Form::Val),
@@ -149,16 +144,15 @@ fn object_of(entity: EntityKind, number: u32, cap: Cap) -> (u32, Form)
 
 // The result of a written method.
 fn method_result(
-    symbols: &Symbols,
     context: &Context,
     entity: EntityKind,
     number: u32,
     method: &MethodDef,
 ) -> (u32, Form)
-    ensures { result ≡ spec.word_result (context_view symbols.now context.now).entities entity number (method_view symbols.now method.now) method.now.word }
+    ensures { result ≡ spec.word_result context.now.entities entity number (method_view method.now) method.now.word }
 {
     match method.word {
-        MethodWord::Fun => written_result(symbols, context, &method.result),
+        MethodWord::Fun => written_result(context, &method.result),
         MethodWord::Be => (NONE_ENTITY, Form::Val),
         MethodWord::New => object_of(entity, number, cap_or(method.cap, Cap::Ref)),
     }
@@ -166,17 +160,16 @@ fn method_result(
 
 /// The result of a member of the entity with this kind and number. The object made by an added `create` is isolated.
 pub(crate) fn result_of(
-    symbols: &Symbols,
     context: &Context,
     entity: EntityKind,
     number: u32,
     member: Member,
 ) -> (u32, Form)
-    ensures { result ≡ spec.result_of (context_view symbols.now context.now).entities entity number (member_view symbols.now member.entry) }
+    ensures { result ≡ spec.result_of context.now.entities entity number (member_view member.entry) }
 {
     match member {
         Member::Written(method) | Member::Bodiless(method) => method_result(
-            symbols, context, entity, number, method,
+            context, entity, number, method,
         ),
         Member::Added => object_of(entity, number, Cap::Iso),
     }

@@ -1,5 +1,4 @@
 //! The slots of a member.
-ghost use Rattle.pc_resolve.specs.Symbolic.{context_view};
 ghost use Rattle.pc_body_spec.specs.Fold as fold;
 ghost use Rattle.std.specs.Prelude.{◌≡◌, ◌++◌, map, IfOk, OnOk};
 ghost use Rattle.std.specs.Option.{option_copied};
@@ -17,7 +16,6 @@ use pc_caps::Cap;
 use pc_core::{ParamInfo, Slot, SlotKind};
 use pc_members::Member;
 use pc_resolve::{Context, LocalSlots};
-use pc_symbols::Symbols;
 use pc_tree::{Entity, MethodWord, TypeRef};
 use std::alloc::{AllocError, Global};
 
@@ -28,25 +26,24 @@ const MOST_SLOTS: usize = 4_294_967_295;
 #[tactic(auto, using(crate::proofs::Behind::nothing_behind))]
 pub(crate) fn locals_of(
     alloc: Global,
-    symbols: &Symbols,
     entity: &Entity,
     member: Member,
 ) -> Result<List<Local>, AllocError>
-    ensures { IfOk result (λ l. l ≡ spec.member_locals (entity_view symbols.now entity.now) (member_view symbols.now member.entry)) }
+    ensures { IfOk result (λ l. l ≡ spec.member_locals (entity_view entity.now) (member_view member.entry)) }
 {
     match member {
-        Member::Written(method) => locals(alloc, symbols, entity.fields.as_slice(), method),
+        Member::Written(method) => locals(alloc, entity.fields.as_slice(), method),
         Member::Bodiless(method) => match method.word {
-            MethodWord::New => added_locals(alloc, symbols, entity.fields.as_slice()),
+            MethodWord::New => added_locals(alloc, entity.fields.as_slice()),
             MethodWord::Fun | MethodWord::Be => Ok(List::new(alloc)),
         },
-        Member::Added => added_locals(alloc, symbols, entity.fields.as_slice()),
+        Member::Added => added_locals(alloc, entity.fields.as_slice()),
     }
 }
 
 // The index of the slot of a member's first local, after `this` and the parameters.
-fn first_local(symbols: &Symbols, member: Member) -> Result<u32, AllocError>
-    ensures { IfOk result (λ n. n ≡ counts.first_local (member_view symbols.now member.entry)) }
+fn first_local(member: Member) -> Result<u32, AllocError>
+    ensures { IfOk result (λ n. n ≡ counts.first_local (member_view member.entry)) }
 {
     match member {
         Member::Written(method) | Member::Bodiless(method) => {
@@ -63,24 +60,23 @@ fn first_local(symbols: &Symbols, member: Member) -> Result<u32, AllocError>
 /// The places and slots of a member's locals, which are these.
 pub(crate) fn placed_of(
     alloc: Global,
-    symbols: &Symbols,
     member: Member,
     locals: &[Local],
 ) -> Result<LocalSlots, AllocError>
-    ensures { IfOk result (λ l. l ≡ local_specs.placed_from (counts.first_local (member_view symbols.now member.entry)) locals.now) }
+    ensures { IfOk result (λ l. l ≡ local_specs.placed_from (counts.first_local (member_view member.entry)) locals.now) }
 {
-    slots(alloc, first_local(symbols, member)?, locals)
+    slots(alloc, first_local(member)?, locals)
 }
 
 // The slot of `this` in a member of the entity with this number.
-fn this_slot(symbols: &Symbols, method: u32, number: u32, member: Member) -> Slot
-    ensures { result ≡ counts.this_of method number (member_view symbols.now member.entry) }
+fn this_slot(method: u32, number: u32, member: Member) -> Slot
+    ensures { result ≡ counts.this_of method number (member_view member.entry) }
 {
     Slot {
         method,
         kind: SlotKind::This,
         depth: 0,
-        written: Some((number, receiver_of(symbols, member))),
+        written: Some((number, receiver_of(member))),
     }
 }
 
@@ -97,18 +93,18 @@ fn param_slot(method: u32, param: &ParamInfo) -> Slot
 }
 
 // The type that is written for a local.
-fn written_of(symbols: &Symbols, context: &Context, ty: Option<&TypeRef>) -> Option<(u32, Cap)>
-    ensures { result ≡ fold.written_of (context_view symbols.now context.now) (option_copied ty.entry) }
+fn written_of(context: &Context, ty: Option<&TypeRef>) -> Option<(u32, Cap)>
+    ensures { result ≡ fold.written_of context.now (option_copied ty.entry) }
 {
     match ty {
-        Some(ty) => context.type_of(symbols, ty),
+        Some(ty) => context.type_of(ty),
         None => None,
     }
 }
 
 // The slot of a local.
-fn local_slot(symbols: &Symbols, context: &Context, method: u32, local: &Local) -> Slot
-    ensures { result ≡ fold.local_slot (context_view symbols.now context.now) method local.now }
+fn local_slot(context: &Context, method: u32, local: &Local) -> Slot
+    ensures { result ≡ fold.local_slot context.now method local.now }
 {
     Slot {
         method,
@@ -118,7 +114,7 @@ fn local_slot(symbols: &Symbols, context: &Context, method: u32, local: &Local) 
             SlotKind::Var
         },
         depth: local.depth(),
-        written: written_of(symbols, context, local.ty()),
+        written: written_of(context, local.ty()),
     }
 }
 
@@ -134,16 +130,15 @@ fn add_params(slots: &mut List<Slot>, method: u32, params: &[ParamInfo]) -> Resu
 
 // Appends the slots of these locals.
 fn add_locals(
-    symbols: &Symbols,
     context: &Context,
     slots: &mut List<Slot>,
     method: u32,
     locals: &[Local],
 ) -> Result<(), AllocError>
-    ensures { OnOk result (slots.new ≡ slots.old ++ map (fold.local_slot (context_view symbols.now context.now) method) locals.now) }
+    ensures { OnOk result (slots.new ≡ slots.old ++ map (fold.local_slot context.now method) locals.now) }
 {
     for local in locals {
-        slots.push(local_slot(symbols, context, method, local))?;
+        slots.push(local_slot(context, method, local))?;
     }
     Ok(())
 }
@@ -151,7 +146,6 @@ fn add_locals(
 /// Appends the slots of a member that is this method, with these parameters and locals: `this`, then the parameters,
 /// then the locals. The entity has this number.
 pub(crate) fn add_slots(
-    symbols: &Symbols,
     context: &Context,
     slots: &mut List<Slot>,
     method: u32,
@@ -160,9 +154,9 @@ pub(crate) fn add_slots(
     params: &[ParamInfo],
     locals: &[Local],
 ) -> Result<(), AllocError>
-    ensures { OnOk result (slots.new ≡ slots.old ++ counts.slots_with (context_view symbols.now context.now) method number (member_view symbols.now member.entry) params.now locals.now) }
+    ensures { OnOk result (slots.new ≡ slots.old ++ counts.slots_with context.now method number (member_view member.entry) params.now locals.now) }
 {
-    slots.push(this_slot(symbols, method, number, member))?;
+    slots.push(this_slot(method, number, member))?;
     add_params(slots, method, params)?;
-    add_locals(symbols, context, slots, method, locals)
+    add_locals(context, slots, method, locals)
 }

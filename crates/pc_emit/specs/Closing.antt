@@ -2,7 +2,7 @@
 use Rattle.std.specs.Prelude.{ℕ, ◌-◌, ◌+◌, ◌≡◌, Bool, true, false, List, [], ◌∷◌, ◌++◌, Option, Some, None, Result, Ok, Err, take, drop, slice_get, if◌then◌else◌}
 use Rattle.pc_base.specs.declared.span.Span.{Span}
 use Rattle.pc_core.specs.{declared.nodes.Node.Node, declared.nodes.NodeKind.NodeKind}
-use Rattle.pc_tree.specs.{Tree.Name, Kinds.none_entity, Parts.suffixes_of}
+use Rattle.pc_tree.specs.{declared.written_names.Name.Name, Kinds.none_entity, Parts.suffixes_of}
 use Rattle.pc_body_spec.specs.{Bodies.{Rose, rose, leaf, one, two, and_last, joined_span, gap, value_then, write_name, expr_of, roses_of_exprs, chain_of, Start, with_value, Use, read, write, Context, Scope, Meaning, local, field, method, nothing, resolve, number_of_text}, Fold.{Numbered, and_then, push}}
 use Rattle.pc_emit.specs.{declared.stop.EmitStop.EmitStop, declared.waiting.OpenArm.OpenArm, declared.waiting.Link.Link, declared.waiting.OpenChain.OpenChain, declared.chains.First.First, declared.chains.Beginning.Beginning, declared.chains.Reading.Reading, declared.chains.Atom.Atom}
 use Rattle.pc_core.specs.declared.nodes.NodeKind.TheVariants as node

@@ -1,7 +1,6 @@
 //! The nodes of whole bodies.
 ghost use Rattle.std.specs.Prelude.{◌≡◌, ◌++◌, [], IfOk, map};
-ghost use Rattle.pc_resolve.specs.Symbolic.{context_view};
-ghost use Rattle.pc_tree.specs.View.{name_view, maybe_type_view, param_view, expr_view, seq_view, items_view, maybe_expr, field_view, method_view};
+ghost use Rattle.pc_tree.specs.View.{expr_view, field_view, maybe_expr, items_view, method_view, seq_view};
 ghost use Rattle.pc_body_spec.specs.Bodies as spec;
 ghost use Rattle.pc_body_spec.specs.Parts as parts;
 ghost use Rattle.pc_body_spec.specs.Bodies.{Roses, params_scope as scope_of};
@@ -19,7 +18,6 @@ use crate::walk::{expr, items};
 use pc_base::{List, Span};
 use pc_core::{Node, NodeKind};
 use pc_resolve::{Context, params_scope};
-use pc_symbols::Symbols;
 use pc_tree::{Expr, FieldDef, MethodDef, MethodWord, NONE_ENTITY, Name, Seq, TypeRef};
 use std::alloc::{AllocError, Global};
 
@@ -28,18 +26,17 @@ use std::alloc::{AllocError, Global};
 /// these fields. `Full` iff there would be more than 200,000 nodes. After an `Err` nothing is known about the nodes.
 pub fn emit(
     alloc: Global,
-    symbols: &Symbols,
     context: &Context,
     number: u32,
     nodes: &mut List<Node>,
     fields: &[FieldDef],
     method: &MethodDef,
 ) -> Result<Option<u32>, EmitStop>
-    ensures gives { GivesBody result nodes.new (spec.body_of (context_view symbols.now context.now) (map (field_view symbols.now) fields.now) (method_view symbols.now method.now)) number nodes.old }
+    ensures gives { GivesBody result nodes.new (spec.body_of context.now (map field_view fields.now) (method_view method.now)) number nodes.old }
 {
     match &method.body {
         Some(seq) => {
-            let body = written(alloc, symbols, context, number, nodes, fields, method, seq)?;
+            let body = written(alloc, context, number, nodes, fields, method, seq)?;
             Ok(Some(body))
         }
         None => Ok(None),
@@ -50,23 +47,21 @@ pub fn emit(
 /// number of the body, like `emit`.
 pub fn emit_added(
     alloc: Global,
-    symbols: &Symbols,
     context: &Context,
     number: u32,
     nodes: &mut List<Node>,
     fields: &[FieldDef],
     name: Span,
 ) -> Result<u32, EmitStop>
-    ensures gives { GivesNodes result nodes.new (put number (spec.added_body (context_view symbols.now context.now) (map (field_view symbols.now) fields.now) name) nodes.old) }
+    ensures gives { GivesNodes result nodes.new (put number (spec.added_body context.now (map field_view fields.now) name) nodes.old) }
 {
     let setting = Setting {
         alloc,
-        symbols,
         context,
         number,
         depth: 0,
     };
-    let mut items = initials(alloc, symbols, context, number, nodes, fields)?;
+    let mut items = initials(alloc, context, number, nodes, fields)?;
     let none = leaf(&setting, nodes, NodeKind::Prim(NONE_ENTITY), name)?;
     items.push(none)?;
     close_body(&setting, nodes, name, name, items)
@@ -75,7 +70,6 @@ pub fn emit_added(
 // The written body of a method.
 fn written(
     alloc: Global,
-    symbols: &Symbols,
     context: &Context,
     number: u32,
     nodes: &mut List<Node>,
@@ -83,15 +77,14 @@ fn written(
     method: &MethodDef,
     seq: &Seq,
 ) -> Result<u32, EmitStop>
-    ensures { GivesNodes result nodes.new (put number (spec.body_with (context_view symbols.now context.now) (map (field_view symbols.now) fields.now) (method_view symbols.now method.now) (seq_view symbols.now seq.now)) nodes.old) }
+    ensures { GivesNodes result nodes.new (put number (spec.body_with context.now (map field_view fields.now) (method_view method.now) (seq_view seq.now)) nodes.old) }
 {
-    let fields = initial_fields(symbols, method.word, fields);
-    let first = initials(alloc, symbols, context, number, nodes, fields)?;
-    let own = own_items(alloc, symbols, context, number, nodes, method, seq)?;
+    let fields = initial_fields(method.word, fields);
+    let first = initials(alloc, context, number, nodes, fields)?;
+    let own = own_items(alloc, context, number, nodes, method, seq)?;
     let all = append(first, own.as_slice())?;
     let setting = Setting {
         alloc,
-        symbols,
         context,
         number,
         depth: 0,
@@ -102,19 +95,17 @@ fn written(
 // The items of the body of a method, followed by None if a function has no written result.
 fn own_items(
     alloc: Global,
-    symbols: &Symbols,
     context: &Context,
     number: u32,
     nodes: &mut List<Node>,
     method: &MethodDef,
     seq: &Seq,
 ) -> Result<Tops, EmitStop>
-    ensures { GivesNodes result nodes.new (puts number (spec.none_last (spec.gives_none method.now.word (maybe_type_view symbols.now method.now.result)) (name_view symbols.now method.now.name).span (spec.roses_of_items (context_view symbols.now context.now) (scope_of (map (param_view symbols.now) method.now.params)) 0 (items_view symbols.now seq.now.items))) nodes.old) }
+    ensures { GivesNodes result nodes.new (puts number (spec.none_last (spec.gives_none method.now.word method.now.result) method.now.name.span (spec.roses_of_items context.now (scope_of method.now.params) 0 (items_view seq.now.items))) nodes.old) }
 {
-    let mut scope = params_scope(alloc, symbols, method.params.as_slice())?;
+    let mut scope = params_scope(alloc, method.params.as_slice())?;
     let setting = Setting {
         alloc,
-        symbols,
         context,
         number,
         depth: 0,
@@ -125,8 +116,8 @@ fn own_items(
 }
 
 // Only constructors start with the initial values.
-fn initial_fields<'a>(symbols: &Symbols, word: MethodWord, fields: &'a [FieldDef]) -> &'a [FieldDef]
-    ensures { map (field_view symbols.now) result.now ≡ spec.initial_fields word (map (field_view symbols.now) fields.now) }
+fn initial_fields(word: MethodWord, fields: &[FieldDef]) -> &[FieldDef]
+    ensures { map field_view result.now ≡ spec.initial_fields word (map field_view fields.now) }
 {
     match word {
         MethodWord::New => fields,
@@ -136,7 +127,7 @@ fn initial_fields<'a>(symbols: &Symbols, word: MethodWord, fields: &'a [FieldDef
 
 // Whether a method returns None at the end of its items: a function without a written result.
 fn gives_none(word: MethodWord, ty: &Option<TypeRef>) -> bool
-    ensures { result ≡ spec.gives_none word (maybe_type_view symbols.now ty.now) }
+    ensures { result ≡ spec.gives_none word ty.now }
 {
     match word {
         MethodWord::Fun => ty.is_none(),
@@ -168,17 +159,16 @@ fn none_last(
 #[tactic(auto, using(crate::proofs::Wholes::behind_none))]
 fn initials(
     alloc: Global,
-    symbols: &Symbols,
     context: &Context,
     number: u32,
     nodes: &mut List<Node>,
     fields: &[FieldDef],
 ) -> Result<Tops, EmitStop>
-    ensures { (rest : Roses) → LeadsOn result nodes.new (puts number rest) (puts number (spec.initials_then (context_view symbols.now context.now) (map (field_view symbols.now) fields.now) rest) nodes.old) }
+    ensures { (rest : Roses) → LeadsOn result nodes.new (puts number rest) (puts number (spec.initials_then context.now (map field_view fields.now) rest) nodes.old) }
 {
     let mut tops = Tops::new(alloc);
     for field in fields {
-        tops = add_initial(alloc, symbols, context, number, nodes, field, tops)?;
+        tops = add_initial(alloc, context, number, nodes, field, tops)?;
     }
     Ok(tops)
 }
@@ -186,19 +176,18 @@ fn initials(
 // The same with the initial value of one more field, if it has one.
 fn add_initial(
     alloc: Global,
-    symbols: &Symbols,
     context: &Context,
     number: u32,
     nodes: &mut List<Node>,
     field: &FieldDef,
     tops: Tops,
 ) -> Result<Tops, EmitStop>
-    ensures { (rest : Roses) → LeadsOn result nodes.new (puts number rest) (behind_tops tops (puts number (parts.initial_of (context_view symbols.now context.now) (name_view symbols.now field.now.name) (maybe_expr symbols.now field.now.value) rest) nodes.old)) }
+    ensures { (rest : Roses) → LeadsOn result nodes.new (puts number rest) (behind_tops tops (puts number (parts.initial_of context.now field.now.name (maybe_expr field.now.value) rest) nodes.old)) }
 {
     match &field.value {
         None => Ok(tops),
         Some(value) => {
-            let top = initial(alloc, symbols, context, number, nodes, &field.name, value)?;
+            let top = initial(alloc, context, number, nodes, &field.name, value)?;
             let mut tops = tops;
             tops.push(top)?;
             Ok(tops)
@@ -209,19 +198,17 @@ fn add_initial(
 // The write of an initial value. No parameter is visible in it.
 fn initial(
     alloc: Global,
-    symbols: &Symbols,
     context: &Context,
     number: u32,
     nodes: &mut List<Node>,
     name: &Name,
     value: &Expr,
 ) -> Result<u32, EmitStop>
-    ensures { GivesNodes result nodes.new (put number (spec.write_field (context_view symbols.now context.now) name.now.span (name_view symbols.now name.now) 0 (spec.expr_of (context_view symbols.now context.now) [] 0 (expr_view symbols.now value.now)) (spec.added_this (name_view symbols.now name.now) 0)) nodes.old) }
+    ensures { GivesNodes result nodes.new (put number (spec.write_field context.now name.now.span name.now 0 (spec.expr_of context.now [] 0 (expr_view value.now)) (spec.added_this name.now 0)) nodes.old) }
 {
     let mut scope = List::new(alloc);
     let setting = Setting {
         alloc,
-        symbols,
         context,
         number,
         depth: 0,

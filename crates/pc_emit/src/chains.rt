@@ -1,9 +1,8 @@
 //! How a chain of suffixes starts, and what its suffixes are used for.
 ghost use Rattle.std.specs.Prelude.{◌≡◌, ◌<◌, ◌≤◌, ◌^◌, length, map, drop, option_map, slice_get, Some, if◌then◌else◌};
-ghost use Rattle.pc_resolve.specs.Symbolic.{constructors_view, context_view, scope_view};
 ghost use Rattle.pc_emit.specs.declared.chains.Beginning.TheVariants as beginnings;
 ghost use Rattle.pc_tree.specs.Tree as t;
-ghost use Rattle.pc_tree.specs.View.{name_view, expr_view, suffix_view};
+ghost use Rattle.pc_tree.specs.View.{expr_view, suffix_view};
 ghost use Rattle.pc_resolve.specs.Meanings.{meaning_view};
 ghost use Rattle.pc_body_spec.specs.Bodies.{chain_start, start_with_name, with_type, with_method, Scope, resolve, type_meaning, created, primitive, constructor_named as constructor_in};
 ghost use Rattle.pc_body_spec.specs.Fold.{put};
@@ -18,7 +17,6 @@ use crate::stop::EmitStop;
 use pc_base::{List, Span};
 use pc_core::{Node, NodeKind};
 use pc_resolve::{Constructors, Context, Meaning, TypeMeaning, Visible};
-use pc_symbols::Symbols;
 use pc_tree::{Expr, Name, Suffix};
 
 /// What the first arguments of a chain make, together with the atom and the suffixes before them.
@@ -74,19 +72,18 @@ pub(crate) fn count_taken(beginning: &Beginning) -> usize
 
 /// How a chain with this atom and these suffixes starts, and what the atom reads, so that its name is looked up once.
 pub(crate) fn begin(
-    symbols: &Symbols,
     context: &Context,
     scope: &[Visible],
     head: &Expr,
     suffixes: &[Suffix],
 ) -> (Beginning, Atom)
-    ensures begins { BeginsChain (context_view symbols.now context.now) (chain_start (context_view symbols.now context.now) (scope_view symbols.now scope.now) (expr_view symbols.now head.now)) (map (suffix_view symbols.now) suffixes.now) result.0 }
-    ensures reads { ReadsAtom (context_view symbols.now context.now) (scope_view symbols.now scope.now) (expr_view symbols.now head.now) result.1 }
+    ensures begins { BeginsChain context.now (chain_start context.now scope.now (expr_view head.now)) (map suffix_view suffixes.now) result.0 }
+    ensures reads { ReadsAtom context.now scope.now (expr_view head.now) result.1 }
     ensures within { taken result.0 ≤ length suffixes.now }
 {
     match head {
-        Expr::Name(name) => begin_with_name(symbols, context, scope, name, suffixes),
-        Expr::TypeName(name) => begin_with_type(symbols, context, name, suffixes),
+        Expr::Name(name) => begin_with_name(context, scope, name, suffixes),
+        Expr::TypeName(name) => begin_with_type(context, name, suffixes),
         Expr::Number { .. }
         | Expr::Truth { .. }
         | Expr::Text { .. }
@@ -105,42 +102,33 @@ pub(crate) fn begin(
 
 // With a bare name, which may be that of a method.
 fn begin_with_name(
-    symbols: &Symbols,
     context: &Context,
     scope: &[Visible],
     name: &Name,
     suffixes: &[Suffix],
 ) -> (Beginning, Atom)
-    ensures begins { BeginsChain (context_view symbols.now context.now) (start_with_name (name_view symbols.now name.now) (resolve (context_view symbols.now context.now) (scope_view symbols.now scope.now) (name_view symbols.now name.now).text)) (map (suffix_view symbols.now) suffixes.now) result.0 }
-    ensures reads { ReadsAtom (context_view symbols.now context.now) (scope_view symbols.now scope.now) (t.name (name_view symbols.now name.now)) result.1 }
+    ensures begins { BeginsChain context.now (start_with_name name.now (resolve context.now scope.now name.now.text)) (map suffix_view suffixes.now) result.0 }
+    ensures reads { ReadsAtom context.now scope.now (t.name name.now) result.1 }
     ensures within { taken result.0 ≤ length suffixes.now }
 {
-    match context.resolve(symbols, scope, name.symbol) {
+    match context.resolve(scope, name.text.as_slice()) {
         Meaning::Local(slot) => (Beginning::Value, Atom::Reads(Reading::Local(slot))),
         Meaning::Field => {
-            let text = context.text_of(symbols, name.symbol);
+            let text = context.text_of(name.text.as_slice());
             (Beginning::Value, Atom::Reads(Reading::Field(text)))
         }
-        Meaning::Method => (
-            begin_with_method(symbols, context, name, suffixes),
-            Atom::Walked,
-        ),
+        Meaning::Method => (begin_with_method(context, name, suffixes), Atom::Walked),
         Meaning::Nothing => (Beginning::Value, Atom::Walked),
     }
 }
 
 // With the bare name of a method, which is called if arguments follow it.
-fn begin_with_method(
-    symbols: &Symbols,
-    context: &Context,
-    name: &Name,
-    suffixes: &[Suffix],
-) -> Beginning
-    ensures begins { BeginsChain (context_view symbols.now context.now) (with_method (name_view symbols.now name.now)) (map (suffix_view symbols.now) suffixes.now) result }
+fn begin_with_method(context: &Context, name: &Name, suffixes: &[Suffix]) -> Beginning
+    ensures begins { BeginsChain context.now (with_method name.now) (map suffix_view suffixes.now) result }
     ensures within { taken result ≤ length suffixes.now }
 {
-    if has_args(symbols, suffixes, 0) {
-        let text = context.text_of(symbols, name.symbol);
+    if has_args(suffixes, 0) {
+        let text = context.text_of(name.text.as_slice());
         Beginning::With(First::OnThis(text, name.span), 0)
     } else {
         Beginning::Value
@@ -148,26 +136,21 @@ fn begin_with_method(
 }
 
 // With a type name.
-fn begin_with_type(
-    symbols: &Symbols,
-    context: &Context,
-    name: &Name,
-    suffixes: &[Suffix],
-) -> (Beginning, Atom)
-    ensures begins { BeginsChain (context_view symbols.now context.now) (with_type (type_meaning (context_view symbols.now context.now) (name_view symbols.now name.now).text)) (map (suffix_view symbols.now) suffixes.now) result.0 }
-    ensures reads { (scope : Scope) → ReadsAtom (context_view symbols.now context.now) scope (t.type_name (name_view symbols.now name.now)) result.1 }
+fn begin_with_type(context: &Context, name: &Name, suffixes: &[Suffix]) -> (Beginning, Atom)
+    ensures begins { BeginsChain context.now (with_type (type_meaning context.now name.now.text)) (map suffix_view suffixes.now) result.0 }
+    ensures reads { (scope : Scope) → ReadsAtom context.now scope (t.type_name name.now) result.1 }
     ensures within { taken result.0 ≤ length suffixes.now }
 {
-    match context.type_meaning(symbols, name.symbol) {
+    match context.type_meaning(name.text.as_slice()) {
         TypeMeaning::Primitive(entity) => {
-            let beginning = begin_with_primitive(symbols, context, entity, suffixes);
+            let beginning = begin_with_primitive(context, entity, suffixes);
             (beginning, Atom::Reads(Reading::Primitive(entity)))
         }
         TypeMeaning::Created {
             actor,
             constructors,
         } => {
-            let beginning = begin_with_object(symbols, context, actor, constructors, suffixes);
+            let beginning = begin_with_object(context, actor, constructors, suffixes);
             (beginning, Atom::Walked)
         }
         TypeMeaning::NoValue => (Beginning::Value, Atom::Walked),
@@ -175,16 +158,11 @@ fn begin_with_type(
 }
 
 // With a primitive's value, whose name may be followed by `()`.
-fn begin_with_primitive(
-    symbols: &Symbols,
-    context: &Context,
-    entity: u32,
-    suffixes: &[Suffix],
-) -> Beginning
-    ensures begins { BeginsChain (context_view symbols.now context.now) (with_type (primitive entity)) (map (suffix_view symbols.now) suffixes.now) result }
+fn begin_with_primitive(context: &Context, entity: u32, suffixes: &[Suffix]) -> Beginning
+    ensures begins { BeginsChain context.now (with_type (primitive entity)) (map suffix_view suffixes.now) result }
     ensures within { taken result ≤ length suffixes.now }
 {
-    if has_no_arguments(symbols, suffixes) {
+    if has_no_arguments(suffixes) {
         Beginning::With(First::Made(NodeKind::Prim(entity)), 0)
     } else {
         Beginning::Value
@@ -194,53 +172,51 @@ fn begin_with_primitive(
 // With the name of a class or an actor, which calls a constructor if it is followed by arguments, or by a name and
 // arguments.
 fn begin_with_object(
-    symbols: &Symbols,
     context: &Context,
     actor: bool,
     constructors: &Constructors,
     suffixes: &[Suffix],
 ) -> Beginning
-    ensures begins { BeginsChain (context_view symbols.now context.now) (with_type (created actor (constructors_view symbols.now constructors.now))) (map (suffix_view symbols.now) suffixes.now) result }
+    ensures begins { BeginsChain context.now (with_type (created actor constructors.now)) (map suffix_view suffixes.now) result }
     ensures within { taken result ≤ length suffixes.now }
 {
     let Some(first) = suffixes.first() else {
         return Beginning::Value;
     };
     match first {
-        Suffix::Args { .. } => begin_object(actor, constructors.create(symbols), 0),
-        Suffix::Dot(name) => begin_behind_name(symbols, actor, constructors, name, suffixes),
+        Suffix::Args { .. } => begin_object(actor, constructors.create(), 0),
+        Suffix::Dot(name) => begin_behind_name(actor, constructors, name, suffixes),
     }
 }
 
 // With the name of a class or an actor, followed by the name of a constructor, if arguments follow.
 fn begin_behind_name(
-    symbols: &Symbols,
     actor: bool,
     constructors: &Constructors,
     name: &Name,
     suffixes: &[Suffix],
 ) -> Beginning
-    ensures { result ≡ if spec.is_args (slice_get (map (suffix_view symbols.now) suffixes.now) 1) then spec.object actor (constructor_in (constructors_view symbols.now constructors.now) (name_view symbols.now name.now).text) 1 else beginnings.Value }
+    ensures { result ≡ if spec.is_args (slice_get (map suffix_view suffixes.now) 1) then spec.object actor (constructor_in constructors.now name.now.text) 1 else beginnings.Value }
 {
-    if has_args(symbols, suffixes, 1) {
-        begin_object(actor, constructors.find(symbols, name.symbol), 1)
+    if has_args(suffixes, 1) {
+        begin_object(actor, constructors.find(name.text.as_slice()), 1)
     } else {
         Beginning::Value
     }
 }
 
 // Whether the suffix at this place is a list of arguments.
-fn has_args(symbols: &Symbols, suffixes: &[Suffix], at: usize) -> bool
-    ensures { result ≡ spec.is_args (slice_get (map (suffix_view symbols.now) suffixes.now) at) }
+fn has_args(suffixes: &[Suffix], at: usize) -> bool
+    ensures { result ≡ spec.is_args (slice_get (map suffix_view suffixes.now) at) }
 {
     match suffixes.get(at) {
-        Some(suffix) => is_args(symbols, suffix),
+        Some(suffix) => is_args(suffix),
         None => false,
     }
 }
 
-fn is_args(symbols: &Symbols, suffix: &Suffix) -> bool
-    ensures { result ≡ spec.is_args (Some (suffix_view symbols.now suffix.now)) }
+fn is_args(suffix: &Suffix) -> bool
+    ensures { result ≡ spec.is_args (Some (suffix_view suffix.now)) }
 {
     match suffix {
         Suffix::Dot(_) => false,
@@ -249,17 +225,17 @@ fn is_args(symbols: &Symbols, suffix: &Suffix) -> bool
 }
 
 // Whether the first suffix is `()`.
-fn has_no_arguments(symbols: &Symbols, suffixes: &[Suffix]) -> bool
-    ensures { result ≡ spec.is_empty_args (slice_get (map (suffix_view symbols.now) suffixes.now) 0) }
+fn has_no_arguments(suffixes: &[Suffix]) -> bool
+    ensures { result ≡ spec.is_empty_args (slice_get (map suffix_view suffixes.now) 0) }
 {
     match suffixes.first() {
-        Some(suffix) => is_empty_args(symbols, suffix),
+        Some(suffix) => is_empty_args(suffix),
         None => false,
     }
 }
 
-fn is_empty_args(symbols: &Symbols, suffix: &Suffix) -> bool
-    ensures { result ≡ spec.is_empty_args (Some (suffix_view symbols.now suffix.now)) }
+fn is_empty_args(suffix: &Suffix) -> bool
+    ensures { result ≡ spec.is_empty_args (Some (suffix_view suffix.now)) }
 {
     match suffix {
         Suffix::Dot(_) => false,
@@ -306,69 +282,55 @@ pub(crate) fn behind(suffixes: &[Suffix], first: usize) -> &[Suffix]
 
 /// The number of the text that the last of the first `left` suffixes uses, and how many suffixes come before it: a name
 /// directly followed by arguments is one call.
-pub(crate) fn cut(
-    symbols: &Symbols,
-    context: &Context,
-    suffixes: &[Suffix],
-    left: usize,
-) -> (u32, usize)
+pub(crate) fn cut(context: &Context, suffixes: &[Suffix], left: usize) -> (u32, usize)
     requires some { 0 < left }
     requires within { left ≤ length suffixes.now }
     ensures less { result.1 < left }
-    ensures cut { IsCut (context_view symbols.now context.now) (map (suffix_view symbols.now) suffixes.now) left result.0 result.1 }
+    ensures cut { IsCut context.now (map suffix_view suffixes.now) left result.0 result.1 }
 {
     match &suffixes[left - 1] {
-        Suffix::Dot(name) => (context.text_of(symbols, name.symbol), left - 1),
-        Suffix::Args { .. } => cut_args(symbols, context, suffixes, left - 1),
+        Suffix::Dot(name) => (context.text_of(name.text.as_slice()), left - 1),
+        Suffix::Args { .. } => cut_args(context, suffixes, left - 1),
     }
 }
 
 // The number of the text that arguments after the first `left` suffixes use, and how many suffixes come before them.
-fn cut_args(symbols: &Symbols, context: &Context, suffixes: &[Suffix], left: usize) -> (u32, usize)
+fn cut_args(context: &Context, suffixes: &[Suffix], left: usize) -> (u32, usize)
     requires within { left ≤ length suffixes.now }
     ensures less { result.1 ≤ left }
-    ensures cut { IsBefore (context_view symbols.now context.now) (map (suffix_view symbols.now) suffixes.now) left result.0 result.1 }
+    ensures cut { IsBefore context.now (map suffix_view suffixes.now) left result.0 result.1 }
 {
     if left == 0 {
-        return (context.apply(symbols), 0);
+        return (context.apply(), 0);
     }
     match &suffixes[left - 1] {
-        Suffix::Dot(name) => (context.text_of(symbols, name.symbol), left - 1),
-        Suffix::Args { .. } => (context.apply(symbols), left),
+        Suffix::Dot(name) => (context.text_of(name.text.as_slice()), left - 1),
+        Suffix::Args { .. } => (context.apply(), left),
     }
 }
 
 /// The number of the text of the field with which a chain ends, and how many suffixes come before it; or the number of
 /// all suffixes if it ends in another way.
-pub(crate) fn split_field(
-    symbols: &Symbols,
-    context: &Context,
-    suffixes: &[Suffix],
-) -> (Option<u32>, usize)
+pub(crate) fn split_field(context: &Context, suffixes: &[Suffix]) -> (Option<u32>, usize)
     ensures within { result.1 ≤ length suffixes.now }
-    ensures split { IsSplit (context_view symbols.now context.now) (map (suffix_view symbols.now) suffixes.now) result.0 result.1 }
+    ensures split { IsSplit context.now (map suffix_view suffixes.now) result.0 result.1 }
 {
     let count = suffixes.len();
     if count == 0 {
         return (None, 0);
     }
     match &suffixes[count - 1] {
-        Suffix::Dot(name) => (Some(context.text_of(symbols, name.symbol)), count - 1),
+        Suffix::Dot(name) => (Some(context.text_of(name.text.as_slice())), count - 1),
         Suffix::Args { .. } => (None, count),
     }
 }
 
 /// The meaning of the target of an assignment, if it is a bare name.
-pub(crate) fn target_of(
-    symbols: &Symbols,
-    context: &Context,
-    scope: &[Visible],
-    left: &Expr,
-) -> Option<Meaning>
-    ensures { option_map meaning_view result ≡ spec.target_meaning (context_view symbols.now context.now) (scope_view symbols.now scope.now) (expr_view symbols.now left.now) }
+pub(crate) fn target_of(context: &Context, scope: &[Visible], left: &Expr) -> Option<Meaning>
+    ensures { option_map meaning_view result ≡ spec.target_meaning context.now scope.now (expr_view left.now) }
 {
     match left {
-        Expr::Name(name) => Some(context.resolve(symbols, scope, name.symbol)),
+        Expr::Name(name) => Some(context.resolve(scope, name.text.as_slice())),
         Expr::Number { .. }
         | Expr::Truth { .. }
         | Expr::Text { .. }

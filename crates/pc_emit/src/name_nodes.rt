@@ -1,6 +1,4 @@
 //! The nodes of names and texts on their own.
-ghost use Rattle.pc_tree.specs.View.{name_view};
-ghost use Rattle.pc_resolve.specs.Symbolic.{constructors_view, context_view, scope_view};
 ghost use Rattle.pc_body_spec.specs.Fold as fold;
 ghost use Rattle.std.specs.Prelude.{◌≡◌, ◌∷◌, [], Some, option_map, if◌then◌else◌};
 ghost use Rattle.pc_core.specs.declared.nodes.NodeKind.TheVariants as kinds;
@@ -27,9 +25,9 @@ pub(crate) fn read_name(
     nodes: &mut List<Node>,
     name: &Name,
 ) -> Result<u32, EmitStop>
-    ensures { GivesNodes result nodes.new (put setting.now.number (spec.read_name (context_view setting.now.symbols.now setting.now.context.now) (name_view symbols.now name.now) setting.now.depth (resolve (context_view setting.now.symbols.now setting.now.context.now) (scope_view setting.now.symbols.now scope.now) (name_view setting.now.symbols.now (name_view symbols.now name.now)).text)) nodes.old) }
+    ensures { GivesNodes result nodes.new (put setting.now.number (spec.read_name setting.now.context.now name.now setting.now.depth (resolve setting.now.context.now scope.now name.now.text)) nodes.old) }
 {
-    match setting.context.resolve(setting.symbols, scope, name.symbol) {
+    match setting.context.resolve(scope, name.text.as_slice()) {
         Meaning::Local(slot) => leaf(setting, nodes, NodeKind::Local(slot), name.span),
         Meaning::Field => read_field(setting, nodes, name),
         Meaning::Method | Meaning::Nothing => gap(setting, nodes, name.span),
@@ -38,10 +36,10 @@ pub(crate) fn read_name(
 
 // Reading a field of `this`.
 fn read_field(setting: &Setting, nodes: &mut List<Node>, name: &Name) -> Result<u32, EmitStop>
-    ensures { GivesNodes result nodes.new (put setting.now.number (spec.read_field (context_view setting.now.symbols.now setting.now.context.now) name.now.span (name_view symbols.now name.now) setting.now.depth (spec.added_this (name_view symbols.now name.now) setting.now.depth)) nodes.old) }
+    ensures { GivesNodes result nodes.new (put setting.now.number (spec.read_field setting.now.context.now name.now.span name.now setting.now.depth (spec.added_this name.now setting.now.depth)) nodes.old) }
 {
     let this = leaf(setting, nodes, NodeKind::This, name.span)?;
-    let kind = NodeKind::Field(setting.context.text_of(setting.symbols, name.symbol));
+    let kind = NodeKind::Field(setting.context.text_of(name.text.as_slice()));
     single(setting, nodes, kind, name.span, this)
 }
 
@@ -54,7 +52,7 @@ pub(crate) fn write_name(
     target: Option<Meaning>,
     value: u32,
 ) -> Result<u32, EmitStop>
-    ensures { (w : Seen) → option_map meaning_view target ≡ Some w → GivesNodes result nodes.new (name_closes (context_view setting.now.symbols.now setting.now.context.now) setting.now.number setting.now.depth span (name_view symbols.now name.now) w value nodes.old) }
+    ensures { (w : Seen) → option_map meaning_view target ≡ Some w → GivesNodes result nodes.new (name_closes setting.now.context.now setting.now.number setting.now.depth span name.now w value nodes.old) }
 {
     match target {
         Some(meaning) => write_meaning(setting, nodes, span, name, meaning, value),
@@ -71,7 +69,7 @@ fn write_meaning(
     meaning: Meaning,
     value: u32,
 ) -> Result<u32, EmitStop>
-    ensures { GivesNodes result nodes.new (name_closes (context_view setting.now.symbols.now setting.now.context.now) setting.now.number setting.now.depth span (name_view symbols.now name.now) (meaning_view meaning) value nodes.old) }
+    ensures { GivesNodes result nodes.new (name_closes setting.now.context.now setting.now.number setting.now.depth span name.now (meaning_view meaning) value nodes.old) }
 {
     match meaning {
         Meaning::Local(slot) => single(setting, nodes, NodeKind::Assign(slot), span, value),
@@ -89,10 +87,10 @@ pub(crate) fn write_field(
     name: &Name,
     value: u32,
 ) -> Result<u32, EmitStop>
-    ensures { GivesNodes result nodes.new (fold.and_then (fold.push setting.now.number kinds.This name.now.span setting.now.depth [] nodes.old) (λ this. fold.push setting.now.number (kinds.SetField (text_in (context_view setting.now.symbols.now setting.now.context.now) (name_view setting.now.symbols.now (name_view symbols.now name.now)).text)) span setting.now.depth (value ∷ this ∷ []))) }
+    ensures { GivesNodes result nodes.new (fold.and_then (fold.push setting.now.number kinds.This name.now.span setting.now.depth [] nodes.old) (λ this. fold.push setting.now.number (kinds.SetField (text_in setting.now.context.now name.now.text)) span setting.now.depth (value ∷ this ∷ []))) }
 {
     let this = leaf(setting, nodes, NodeKind::This, name.span)?;
-    let kind = NodeKind::SetField(setting.context.text_of(setting.symbols, name.symbol));
+    let kind = NodeKind::SetField(setting.context.text_of(name.text.as_slice()));
     double(setting, nodes, kind, span, value, this)
 }
 
@@ -114,9 +112,9 @@ pub(crate) fn read_type(
     nodes: &mut List<Node>,
     name: &Name,
 ) -> Result<u32, EmitStop>
-    ensures { GivesNodes result nodes.new (put setting.now.number (spec.read_type (name_view symbols.now name.now) setting.now.depth (type_meaning (context_view setting.now.symbols.now setting.now.context.now) (name_view setting.now.symbols.now (name_view symbols.now name.now)).text)) nodes.old) }
+    ensures { GivesNodes result nodes.new (put setting.now.number (spec.read_type name.now setting.now.depth (type_meaning setting.now.context.now name.now.text)) nodes.old) }
 {
-    match setting.context.type_meaning(setting.symbols, name.symbol) {
+    match setting.context.type_meaning(name.text.as_slice()) {
         TypeMeaning::Primitive(entity) => {
             let kind = NodeKind::Prim(entity);
             leaf(setting, nodes, kind, name.span)
@@ -137,9 +135,9 @@ fn create(
     actor: bool,
     constructors: &Constructors,
 ) -> Result<u32, EmitStop>
-    ensures { GivesNodes result nodes.new (put setting.now.number (spec.new_object_rose actor span setting.now.depth spec.no_roses (constructor_in (constructors_view setting.now.symbols.now constructors.now) spec.create_name)) nodes.old) }
+    ensures { GivesNodes result nodes.new (put setting.now.number (spec.new_object_rose actor span setting.now.depth spec.no_roses (constructor_in constructors.now spec.create_name)) nodes.old) }
 {
-    match constructors.create(setting.symbols) {
+    match constructors.create() {
         Some(method) => leaf(setting, nodes, object_kind(actor, method), span),
         None => gap(setting, nodes, span),
     }
@@ -164,9 +162,9 @@ pub(crate) fn consume(
     name: &Name,
     span: Span,
 ) -> Result<u32, EmitStop>
-    ensures { GivesNodes result nodes.new (put setting.now.number (parts.consumed span setting.now.depth (slot_in (scope_view setting.now.symbols.now scope.now) (name_view setting.now.symbols.now (name_view symbols.now name.now)).text)) nodes.old) }
+    ensures { GivesNodes result nodes.new (put setting.now.number (parts.consumed span setting.now.depth (slot_in scope.now name.now.text)) nodes.old) }
 {
-    match slot_of(setting.symbols, scope, name.symbol) {
+    match slot_of(scope, name.text.as_slice()) {
         Some(slot) => leaf(setting, nodes, NodeKind::Consume(slot), span),
         None => gap(setting, nodes, span),
     }

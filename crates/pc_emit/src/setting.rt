@@ -3,14 +3,12 @@ ghost use Rattle.std.specs.Prelude.{◌≡◌};
 ghost use Rattle.pc_body_spec.specs.Bodies as spec;
 
 use pc_resolve::Context;
-use pc_symbols::Symbols;
 use std::alloc::Global;
 
 /// What stays the same while the nodes of a part of a body are emitted.
 #[derive(Drop)]
 pub(crate) struct Setting<'a> {
     pub(crate) alloc: Global,
-    pub(crate) symbols: &'a Symbols,
     pub(crate) context: &'a Context,
     /// The number of the method.
     pub(crate) number: u32,
@@ -21,14 +19,12 @@ pub(crate) struct Setting<'a> {
 impl<'a> Setting<'a> {
     /// The setting inside a `recover`.
     pub(crate) fn deeper(&self) -> Setting<'a>
-        ensures symbols { result.symbols.now ≡ self.now.symbols.now }
         ensures context { result.context.now ≡ self.now.context.now }
         ensures number { result.number ≡ self.now.number }
         ensures depth { result.depth ≡ spec.deeper self.now.depth }
     {
         Setting {
             alloc: self.alloc,
-            symbols: self.symbols,
             context: self.context,
             number: self.number,
             depth: self.depth.saturating_add(1),

@@ -1,7 +1,6 @@
 //! The nodes of expressions and sequences, in the order of evaluation.
 ghost use Rattle.std.specs.Prelude.{◌≡◌, ◌+◌, ◌≤◌, OnOk, length, take, drop, map, option_map, true, false, Some, List as Sequence};
-ghost use Rattle.pc_resolve.specs.Symbolic.{context_view, scope_view};
-ghost use Rattle.pc_tree.specs.View.{expr_view, item_view, suffix_view, seq_view, exprs_view, arms_view, items_view, other_view};
+ghost use Rattle.pc_tree.specs.View.{expr_view, item_view, suffix_view, seq_view, items_view, exprs_view, arms_view, other_view};
 ghost use Rattle.pc_body_spec.specs.Bodies as spec;
 ghost use Rattle.pc_body_spec.specs.Bodies.{Rose, scope_after};
 ghost use Rattle.pc_body_spec.specs.Fold.{put, puts};
@@ -21,7 +20,7 @@ use crate::tops::Tops;
 use crate::waiting::{
     Link, OpenArm, OpenChain, call_this, close_arms, close_links, close_sequence, close_write,
 };
-use pc_base::{List, Span};
+use pc_base::{List, ShortBytes, Span};
 use pc_core::{Node, NodeKind};
 use pc_resolve::{Meaning, Visible};
 use pc_tree::{Arm, Expr, Item, NONE_ENTITY, Op, Seq, Suffix, join, span_of};
@@ -34,8 +33,8 @@ pub(crate) fn expr(
     nodes: &mut List<Node>,
     expression: &Expr,
 ) -> Result<u32, EmitStop>
-    ensures gives { GivesNodes result nodes.new (put setting.now.number (spec.expr_of (context_view setting.now.symbols.now setting.now.context.now) (scope_view setting.now.symbols.now scope.old) setting.now.depth (expr_view setting.now.symbols.now expression.now)) nodes.old) }
-    ensures scope { OnOk result ((scope_view setting.now.symbols.now scope.new) ≡ (scope_view setting.now.symbols.now scope.old)) }
+    ensures gives { GivesNodes result nodes.new (put setting.now.number (spec.expr_of setting.now.context.now scope.old setting.now.depth (expr_view expression.now)) nodes.old) }
+    ensures scope { OnOk result (scope.new ≡ scope.old) }
 {
     match expression {
         Expr::Number { value, span } => leaf(setting, nodes, NodeKind::Number(*value), *span),
@@ -57,7 +56,7 @@ pub(crate) fn expr(
             block(setting, scope, nodes, expression)
         }
         Expr::Assign { left, right, span } => {
-            let target = target_of(setting.symbols, setting.context, scope.as_slice(), left);
+            let target = target_of(setting.context, scope.as_slice(), left);
             if is_missing(target) {
                 return gap(setting, nodes, *span);
             }
@@ -75,8 +74,8 @@ fn block(
     nodes: &mut List<Node>,
     expression: &Expr,
 ) -> Result<u32, EmitStop>
-    ensures gives { GivesNodes result nodes.new (put setting.now.number (only is_block (context_view setting.now.symbols.now setting.now.context.now) (scope_view setting.now.symbols.now scope.old) setting.now.depth (expr_view setting.now.symbols.now expression.now)) nodes.old) }
-    ensures scope { OnOk result ((scope_view setting.now.symbols.now scope.new) ≡ (scope_view setting.now.symbols.now scope.old)) }
+    ensures gives { GivesNodes result nodes.new (put setting.now.number (only is_block setting.now.context.now scope.old setting.now.depth (expr_view expression.now)) nodes.old) }
+    ensures scope { OnOk result (scope.new ≡ scope.old) }
 {
     match expression {
         Expr::Group { body, span } => sequence(setting, scope, nodes, *span, body),
@@ -104,7 +103,7 @@ fn block(
         | Expr::Not { .. }
         | Expr::Infix { .. }
         | Expr::Chain { .. }
-        | Expr::Assign { .. } => gap(setting, nodes, span_of(setting.symbols, expression)),
+        | Expr::Assign { .. } => gap(setting, nodes, span_of(expression)),
     }
 }
 
@@ -116,8 +115,8 @@ fn chain(
     nodes: &mut List<Node>,
     expression: &Expr,
 ) -> Result<u32, EmitStop>
-    ensures gives { GivesNodes result nodes.new (put setting.now.number (only is_chain (context_view setting.now.symbols.now setting.now.context.now) (scope_view setting.now.symbols.now scope.old) setting.now.depth (expr_view setting.now.symbols.now expression.now)) nodes.old) }
-    ensures scope { OnOk result ((scope_view setting.now.symbols.now scope.new) ≡ (scope_view setting.now.symbols.now scope.old)) }
+    ensures gives { GivesNodes result nodes.new (put setting.now.number (only is_chain setting.now.context.now scope.old setting.now.depth (expr_view expression.now)) nodes.old) }
+    ensures scope { OnOk result (scope.new ≡ scope.old) }
 {
     let Expr::Chain {
         head,
@@ -125,17 +124,11 @@ fn chain(
         span,
     } = expression
     else {
-        return gap(setting, nodes, span_of(setting.symbols, expression));
+        return gap(setting, nodes, span_of(expression));
     };
     let head: &Expr = head;
     let suffixes = suffixes.as_slice();
-    let (beginning, atom) = begin(
-        setting.symbols,
-        setting.context,
-        scope.as_slice(),
-        head,
-        suffixes,
-    );
+    let (beginning, atom) = begin(setting.context, scope.as_slice(), head, suffixes);
     let taken = count_taken(&beginning);
     let count = behind(suffixes, taken).len();
     let opened = open_chain(setting, scope, nodes, *span, suffixes, beginning, count)?;
@@ -154,8 +147,8 @@ fn store(
     target: Option<Meaning>,
     value: u32,
 ) -> Result<u32, EmitStop>
-    ensures gives { (v : Rose) (before : Sequence Node) → option_map meaning_view target ≡ target_meaning (context_view setting.now.symbols.now setting.now.context.now) (scope_view setting.now.symbols.now scope.old) (expr_view setting.now.symbols.now left.now) → misses (context_view setting.now.symbols.now setting.now.context.now) (scope_view setting.now.symbols.now scope.old) (expr_view setting.now.symbols.now left.now) ≡ false → put setting.now.number v before ≡ Some (value, nodes.old) → GivesNodes result nodes.new (put setting.now.number (spec.assign_of (context_view setting.now.symbols.now setting.now.context.now) (scope_view setting.now.symbols.now scope.old) setting.now.depth span v (spec.expr_of (context_view setting.now.symbols.now setting.now.context.now) (scope_view setting.now.symbols.now scope.old) setting.now.depth (expr_view setting.now.symbols.now left.now)) (expr_view setting.now.symbols.now left.now)) before) }
-    ensures scope { OnOk result ((scope_view setting.now.symbols.now scope.new) ≡ (scope_view setting.now.symbols.now scope.old)) }
+    ensures gives { (v : Rose) (before : Sequence Node) → option_map meaning_view target ≡ target_meaning setting.now.context.now scope.old (expr_view left.now) → misses setting.now.context.now scope.old (expr_view left.now) ≡ false → put setting.now.number v before ≡ Some (value, nodes.old) → GivesNodes result nodes.new (put setting.now.number (spec.assign_of setting.now.context.now scope.old setting.now.depth span v (spec.expr_of setting.now.context.now scope.old setting.now.depth (expr_view left.now)) (expr_view left.now)) before) }
+    ensures scope { OnOk result (scope.new ≡ scope.old) }
 {
     let Expr::Chain {
         head,
@@ -167,16 +160,10 @@ fn store(
     };
     let head: &Expr = head;
     let suffixes = suffixes.as_slice();
-    let (beginning, atom) = begin(
-        setting.symbols,
-        setting.context,
-        scope.as_slice(),
-        head,
-        suffixes,
-    );
+    let (beginning, atom) = begin(setting.context, scope.as_slice(), head, suffixes);
     let taken = count_taken(&beginning);
     let written = behind(suffixes, taken);
-    let (field, count) = split_field(setting.symbols, setting.context, written);
+    let (field, count) = split_field(setting.context, written);
     let opened = open_chain(setting, scope, nodes, *reach, suffixes, beginning, count)?;
     let origin = chain_origin(setting, scope, nodes, opened.origin, atom, head)?;
     close_write(setting, nodes, span, field, opened.links, origin, value)
@@ -193,8 +180,8 @@ fn store_alone(
     target: Option<Meaning>,
     value: u32,
 ) -> Result<u32, EmitStop>
-    ensures gives { (v : Rose) (before : Sequence Node) → option_map meaning_view target ≡ target_meaning (context_view setting.now.symbols.now setting.now.context.now) (scope_view setting.now.symbols.now scope.old) (expr_view setting.now.symbols.now left.now) → misses (context_view setting.now.symbols.now setting.now.context.now) (scope_view setting.now.symbols.now scope.old) (expr_view setting.now.symbols.now left.now) ≡ false → put setting.now.number v before ≡ Some (value, nodes.old) → GivesNodes result nodes.new (put setting.now.number (alone_of (context_view setting.now.symbols.now setting.now.context.now) (scope_view setting.now.symbols.now scope.old) setting.now.depth span v (spec.expr_of (context_view setting.now.symbols.now setting.now.context.now) (scope_view setting.now.symbols.now scope.old) setting.now.depth (expr_view setting.now.symbols.now left.now)) (expr_view setting.now.symbols.now left.now)) before) }
-    ensures scope { OnOk result ((scope_view setting.now.symbols.now scope.new) ≡ (scope_view setting.now.symbols.now scope.old)) }
+    ensures gives { (v : Rose) (before : Sequence Node) → option_map meaning_view target ≡ target_meaning setting.now.context.now scope.old (expr_view left.now) → misses setting.now.context.now scope.old (expr_view left.now) ≡ false → put setting.now.number v before ≡ Some (value, nodes.old) → GivesNodes result nodes.new (put setting.now.number (alone_of setting.now.context.now scope.old setting.now.depth span v (spec.expr_of setting.now.context.now scope.old setting.now.depth (expr_view left.now)) (expr_view left.now)) before) }
+    ensures scope { OnOk result (scope.new ≡ scope.old) }
 {
     match left {
         Expr::Name(name) => write_name(setting, nodes, span, name, target, value),
@@ -230,8 +217,8 @@ fn open_chain(
     count: usize,
 ) -> Result<OpenChain, EmitStop>
     requires within { count_of beginning + count ≤ length suffixes.now }
-    ensures gives { (atom : Rose) → OpensChain result nodes.new (link_closes setting.now.number setting.now.depth) (put setting.now.number atom) (put setting.now.number (rest_of (context_view setting.now.symbols.now setting.now.context.now) (scope_view setting.now.symbols.now scope.old) setting.now.depth span (begun (context_view setting.now.symbols.now setting.now.context.now) (scope_view setting.now.symbols.now scope.old) setting.now.depth span beginning (map (suffix_view setting.now.symbols.now) suffixes.now) atom) (map (suffix_view setting.now.symbols.now) (take count (drop (count_of beginning) suffixes.now)))) nodes.old) }
-    ensures scope { OnOk result ((scope_view setting.now.symbols.now scope.new) ≡ (scope_view setting.now.symbols.now scope.old)) }
+    ensures gives { (atom : Rose) → OpensChain result nodes.new (link_closes setting.now.number setting.now.depth) (put setting.now.number atom) (put setting.now.number (rest_of setting.now.context.now scope.old setting.now.depth span (begun setting.now.context.now scope.old setting.now.depth span beginning (map suffix_view suffixes.now) atom) (map suffix_view (take count (drop (count_of beginning) suffixes.now)))) nodes.old) }
+    ensures scope { OnOk result (scope.new ≡ scope.old) }
 {
     let taken = count_taken(&beginning);
     let links = links(setting, scope, nodes, span, suffixes, taken, count)?;
@@ -260,18 +247,13 @@ fn chain_origin(
     atom: Atom,
     head: &Expr,
 ) -> Result<u32, EmitStop>
-    ensures gives { ReadsAtom (context_view setting.now.symbols.now setting.now.context.now) (scope_view setting.now.symbols.now scope.old) (expr_view setting.now.symbols.now head.now) atom → GivesNodes result nodes.new (begun_by origin (put setting.now.number (spec.expr_of (context_view setting.now.symbols.now setting.now.context.now) (scope_view setting.now.symbols.now scope.old) setting.now.depth (expr_view setting.now.symbols.now head.now))) nodes.old) }
-    ensures scope { OnOk result ((scope_view setting.now.symbols.now scope.new) ≡ (scope_view setting.now.symbols.now scope.old)) }
+    ensures gives { ReadsAtom setting.now.context.now scope.old (expr_view head.now) atom → GivesNodes result nodes.new (begun_by origin (put setting.now.number (spec.expr_of setting.now.context.now scope.old setting.now.depth (expr_view head.now))) nodes.old) }
+    ensures scope { OnOk result (scope.new ≡ scope.old) }
 {
     match origin {
         Some(number) => Ok(number),
         None => match atom {
-            Atom::Reads(reading) => read_atom(
-                setting,
-                nodes,
-                reading,
-                span_of(setting.symbols, head),
-            ),
+            Atom::Reads(reading) => read_atom(setting, nodes, reading, span_of(head)),
             Atom::Walked => expr(setting, scope, nodes, head),
         },
     }
@@ -287,8 +269,8 @@ fn first_args(
     first: First,
     suffix: &Suffix,
 ) -> Result<u32, EmitStop>
-    ensures gives { GivesNodes result nodes.new (put setting.now.number (first_of (context_view setting.now.symbols.now setting.now.context.now) (scope_view setting.now.symbols.now scope.old) setting.now.depth span first (suffix_view setting.now.symbols.now suffix.now)) nodes.old) }
-    ensures scope { OnOk result ((scope_view setting.now.symbols.now scope.new) ≡ (scope_view setting.now.symbols.now scope.old)) }
+    ensures gives { GivesNodes result nodes.new (put setting.now.number (first_of setting.now.context.now scope.old setting.now.depth span first (suffix_view suffix.now)) nodes.old) }
+    ensures scope { OnOk result (scope.new ≡ scope.old) }
 {
     match suffix {
         Suffix::Dot(name) => gap(setting, nodes, join(span, name.span)),
@@ -316,8 +298,8 @@ fn infix(
     span: Span,
     terms: &[Expr],
 ) -> Result<u32, EmitStop>
-    ensures gives { GivesNodes result nodes.new (put setting.now.number (spec.infix_of (context_view setting.now.symbols.now setting.now.context.now) (scope_view setting.now.symbols.now scope.old) setting.now.depth op span (exprs_view setting.now.symbols.now terms.now)) nodes.old) }
-    ensures scope { OnOk result ((scope_view setting.now.symbols.now scope.new) ≡ (scope_view setting.now.symbols.now scope.old)) }
+    ensures gives { GivesNodes result nodes.new (put setting.now.number (spec.infix_of setting.now.context.now scope.old setting.now.depth op span (exprs_view terms.now)) nodes.old) }
+    ensures scope { OnOk result (scope.new ≡ scope.old) }
 {
     let Some(first) = terms.first() else {
         return leaf(setting, nodes, NodeKind::Prim(NONE_ENTITY), span);
@@ -326,7 +308,7 @@ fn infix(
     for i in 1..terms.len() {
         let x = &terms[i];
         let right = expr(setting, scope, nodes, x)?;
-        let reach = join(span, span_of(setting.symbols, x));
+        let reach = join(span, span_of(x));
         let kind = operation(op);
         left = double(setting, nodes, kind, reach, left, right)?;
     }
@@ -342,8 +324,8 @@ fn open_arms(
     span: Span,
     arms: &[Arm],
 ) -> Result<List<OpenArm>, EmitStop>
-    ensures gives { (last : Rose) → OpensInnerPart result nodes.new (arm_closes setting.now.number setting.now.depth) (put setting.now.number last) (put setting.now.number (spec.rose_of_arms (context_view setting.now.symbols.now setting.now.context.now) (scope_view setting.now.symbols.now scope.old) setting.now.depth span true (arms_view setting.now.symbols.now arms.now) last) nodes.old) }
-    ensures scope { OnOk result ((scope_view setting.now.symbols.now scope.new) ≡ (scope_view setting.now.symbols.now scope.old)) }
+    ensures gives { (last : Rose) → OpensInnerPart result nodes.new (arm_closes setting.now.number setting.now.depth) (put setting.now.number last) (put setting.now.number (spec.rose_of_arms setting.now.context.now scope.old setting.now.depth span true (arms_view arms.now) last) nodes.old) }
+    ensures scope { OnOk result (scope.new ≡ scope.old) }
 {
     let mut waiting = List::new(setting.alloc);
     let mut first = true;
@@ -378,8 +360,8 @@ fn otherwise(
     span: Span,
     other: &Option<Box<Seq>>,
 ) -> Result<u32, EmitStop>
-    ensures gives { GivesNodes result nodes.new (put setting.now.number (spec.other_of (context_view setting.now.symbols.now setting.now.context.now) (scope_view setting.now.symbols.now scope.old) setting.now.depth span (other_view setting.now.symbols.now other.now)) nodes.old) }
-    ensures scope { OnOk result ((scope_view setting.now.symbols.now scope.new) ≡ (scope_view setting.now.symbols.now scope.old)) }
+    ensures gives { GivesNodes result nodes.new (put setting.now.number (spec.other_of setting.now.context.now scope.old setting.now.depth span (other_view other.now)) nodes.old) }
+    ensures scope { OnOk result (scope.new ≡ scope.old) }
 {
     match other {
         Some(body) => whole(setting, scope, nodes, body),
@@ -403,14 +385,14 @@ fn links(
     count: usize,
 ) -> Result<List<Link>, EmitStop>
     requires within { first + count ≤ length suffixes.now }
-    ensures gives { (origin : Rose) → OpensInnerPart result nodes.new (link_closes setting.now.number setting.now.depth) (put setting.now.number origin) (put setting.now.number (rest_of (context_view setting.now.symbols.now setting.now.context.now) (scope_view setting.now.symbols.now scope.old) setting.now.depth span origin (map (suffix_view setting.now.symbols.now) (take count (drop first suffixes.now)))) nodes.old) }
-    ensures scope { OnOk result ((scope_view setting.now.symbols.now scope.new) ≡ (scope_view setting.now.symbols.now scope.old)) }
+    ensures gives { (origin : Rose) → OpensInnerPart result nodes.new (link_closes setting.now.number setting.now.depth) (put setting.now.number origin) (put setting.now.number (rest_of setting.now.context.now scope.old setting.now.depth span origin (map suffix_view (take count (drop first suffixes.now)))) nodes.old) }
+    ensures scope { OnOk result (scope.new ≡ scope.old) }
 {
     let rest = behind(suffixes, first);
     let mut links = List::new(setting.alloc);
     let mut left = count;
     'back: while left > 0 {
-        let (text, before) = cut(setting.symbols, setting.context, rest, left);
+        let (text, before) = cut(setting.context, rest, left);
         let x = &suffixes[first + left - 1];
         let last = link(setting, scope, nodes, span, x, text)?;
         links.push(last)?;
@@ -430,8 +412,8 @@ fn link(
     suffix: &Suffix,
     text: u32,
 ) -> Result<Link, EmitStop>
-    ensures gives { (origin : Rose) → OpensOne result nodes.new (link_closes setting.now.number setting.now.depth) (put setting.now.number origin) (put setting.now.number (link_of (context_view setting.now.symbols.now setting.now.context.now) (scope_view setting.now.symbols.now scope.old) setting.now.depth span text (suffix_view setting.now.symbols.now suffix.now) origin) nodes.old) }
-    ensures scope { OnOk result ((scope_view setting.now.symbols.now scope.new) ≡ (scope_view setting.now.symbols.now scope.old)) }
+    ensures gives { (origin : Rose) → OpensOne result nodes.new (link_closes setting.now.number setting.now.depth) (put setting.now.number origin) (put setting.now.number (link_of setting.now.context.now scope.old setting.now.depth span text (suffix_view suffix.now) origin) nodes.old) }
+    ensures scope { OnOk result (scope.new ≡ scope.old) }
 {
     match suffix {
         Suffix::Dot(name) => Ok(Link {
@@ -458,8 +440,8 @@ fn exprs(
     nodes: &mut List<Node>,
     xs: &[Expr],
 ) -> Result<Tops, EmitStop>
-    ensures gives { GivesNodes result nodes.new (puts setting.now.number (spec.roses_of_exprs (context_view setting.now.symbols.now setting.now.context.now) (scope_view setting.now.symbols.now scope.old) setting.now.depth (exprs_view setting.now.symbols.now xs.now)) nodes.old) }
-    ensures scope { OnOk result ((scope_view setting.now.symbols.now scope.new) ≡ (scope_view setting.now.symbols.now scope.old)) }
+    ensures gives { GivesNodes result nodes.new (puts setting.now.number (spec.roses_of_exprs setting.now.context.now scope.old setting.now.depth (exprs_view xs.now)) nodes.old) }
+    ensures scope { OnOk result (scope.new ≡ scope.old) }
 {
     let mut tops = Tops::new(setting.alloc);
     for x in xs {
@@ -477,8 +459,8 @@ fn whole(
     nodes: &mut List<Node>,
     seq: &Seq,
 ) -> Result<u32, EmitStop>
-    ensures gives { GivesNodes result nodes.new (put setting.now.number (spec.whole_of (context_view setting.now.symbols.now setting.now.context.now) (scope_view setting.now.symbols.now scope.old) setting.now.depth (seq_view setting.now.symbols.now seq.now)) nodes.old) }
-    ensures scope { OnOk result ((scope_view setting.now.symbols.now scope.new) ≡ (scope_view setting.now.symbols.now scope.old)) }
+    ensures gives { GivesNodes result nodes.new (put setting.now.number (spec.whole_of setting.now.context.now scope.old setting.now.depth (seq_view seq.now)) nodes.old) }
+    ensures scope { OnOk result (scope.new ≡ scope.old) }
 {
     sequence(setting, scope, nodes, seq.span, seq)
 }
@@ -492,8 +474,8 @@ fn sequence(
     span: Span,
     seq: &Seq,
 ) -> Result<u32, EmitStop>
-    ensures gives { GivesNodes result nodes.new (put setting.now.number (spec.seq_of (context_view setting.now.symbols.now setting.now.context.now) (scope_view setting.now.symbols.now scope.old) setting.now.depth span (seq_view setting.now.symbols.now seq.now)) nodes.old) }
-    ensures scope { OnOk result ((scope_view setting.now.symbols.now scope.new) ≡ (scope_view setting.now.symbols.now scope.old)) }
+    ensures gives { GivesNodes result nodes.new (put setting.now.number (spec.seq_of setting.now.context.now scope.old setting.now.depth span (seq_view seq.now)) nodes.old) }
+    ensures scope { OnOk result (scope.new ≡ scope.old) }
 {
     let before = scope.len();
     let tops = items(setting, scope, nodes, seq.items.as_slice())?;
@@ -509,8 +491,8 @@ pub(crate) fn items(
     nodes: &mut List<Node>,
     xs: &[Item],
 ) -> Result<Tops, EmitStop>
-    ensures gives { GivesNodes result nodes.new (puts setting.now.number (spec.roses_of_items (context_view setting.now.symbols.now setting.now.context.now) (scope_view setting.now.symbols.now scope.old) setting.now.depth (items_view setting.now.symbols.now xs.now)) nodes.old) }
-    ensures scope { OnOk result (take (length (scope_view setting.now.symbols.now scope.old)) (scope_view setting.now.symbols.now scope.new) ≡ (scope_view setting.now.symbols.now scope.old)) }
+    ensures gives { GivesNodes result nodes.new (puts setting.now.number (spec.roses_of_items setting.now.context.now scope.old setting.now.depth (items_view xs.now)) nodes.old) }
+    ensures scope { OnOk result (take (length scope.old) scope.new ≡ scope.old) }
 {
     let mut tops = Tops::new(setting.alloc);
     for x in xs {
@@ -528,8 +510,8 @@ fn item(
     nodes: &mut List<Node>,
     part: &Item,
 ) -> Result<u32, EmitStop>
-    ensures gives { GivesNodes result nodes.new (put setting.now.number (spec.item_of (context_view setting.now.symbols.now setting.now.context.now) (scope_view setting.now.symbols.now scope.old) setting.now.depth (item_view setting.now.symbols.now part.now)) nodes.old) }
-    ensures scope { OnOk result ((scope_view setting.now.symbols.now scope.new) ≡ scope_after (context_view setting.now.symbols.now setting.now.context.now) (scope_view setting.now.symbols.now scope.old) (item_view setting.now.symbols.now part.now)) }
+    ensures gives { GivesNodes result nodes.new (put setting.now.number (spec.item_of setting.now.context.now scope.old setting.now.depth (item_view part.now)) nodes.old) }
+    ensures scope { OnOk result (scope.new ≡ scope_after setting.now.context.now scope.old (item_view part.now)) }
 {
     match part {
         Item::Local {
@@ -542,7 +524,8 @@ fn item(
             let top = expr(setting, scope, nodes, value)?;
             let kind = NodeKind::Define(slot);
             let defined = single(setting, nodes, kind, *span, top)?;
-            scope.push(Visible::new(name.symbol, slot))?;
+            let text = ShortBytes::from_slice(setting.alloc, name.text.as_slice())?;
+            scope.push(Visible::new(text, slot))?;
             Ok(defined)
         }
         Item::Plain(e) => expr(setting, scope, nodes, e),

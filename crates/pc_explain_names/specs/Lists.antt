@@ -1,7 +1,7 @@
 -- Names by their places, and lists of them in words.
 use Rattle.std.specs.{Prelude.{ℕ, ◌-◌, Bool, true, false, ◌&&◌, not, nat_eq, nat_lt, List, [], ◌∷◌, ◌++◌, length, take, codes, decimal, if◌then◌else◌}, Str.bytes_eq}
 use Rattle.pc_base.specs.{declared.span.Span.Span, Lists.Text}
-use Rattle.pc_tree.specs.Tree.{ParamDef, Name}
+use Rattle.pc_tree.specs.{declared.file.ParamDef.ParamDef, declared.written_names.Name.Name}
 use Rattle.pc_explain_window.specs.{Places.piece_of, Quoting.quoted}
 use Rattle.pc_tree.specs.Tree as t
 

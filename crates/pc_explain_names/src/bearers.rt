@@ -3,14 +3,13 @@ ghost use Rattle.std.specs.Prelude.{◌≡◌, map, IfOk};
 ghost use Rattle.std.specs.Option.{option_map};
 ghost use Rattle.std.specs.Str.{bytes_eq};
 ghost use Rattle.pc_explain_names.specs.Bearers as spec;
-ghost use Rattle.pc_tree.specs.View.{field_view, method_view, entity_view, file_view};
+ghost use Rattle.pc_tree.specs.View.{entity_view, field_view, file_view, method_view};
 
 use crate::homes::{marks_at, params_of};
 use crate::lists::{first_other, is_other};
 use crate::marks::push_locals;
 use crate::spans::{field_spans, method_spans};
 use pc_base::Span;
-use pc_symbols::Symbols;
 use pc_tree::{Entity, EntityKind, FieldDef, File, MethodDef};
 use std::alloc::{AllocError, Global};
 
@@ -65,14 +64,8 @@ fn as_bearer(bearer: Bearer, found: Option<Span>) -> Found
 }
 
 // The first entity with this name, other than at this byte.
-fn entity_bearer(
-    symbols: &Symbols,
-    bytes: &[u8],
-    name: &[u8],
-    at: u32,
-    entities: &[Entity],
-) -> Found
-    ensures { result ≡ spec.entity_bearer bytes.now name.now at (map (entity_view symbols.now) entities.now) }
+fn entity_bearer(bytes: &[u8], name: &[u8], at: u32, entities: &[Entity]) -> Found
+    ensures { result ≡ spec.entity_bearer bytes.now name.now at (map entity_view entities.now) }
 {
     for entity in entities {
         if is_other(bytes, name, at, entity.name.span) {
@@ -86,15 +79,14 @@ fn entity_bearer(
 #[tactic(auto, unfolding(crate::specs::Bearers::param_bearer))]
 fn param_bearer(
     alloc: Global,
-    symbols: &Symbols,
     bytes: &[u8],
     method: Option<&MethodDef>,
     name: &[u8],
     at: u32,
 ) -> Result<Found, AllocError>
-    ensures { IfOk result (λ found. found ≡ spec.param_bearer bytes.now (option_map (λ m. method_view symbols.now m.now) method.entry) name.now at) }
+    ensures { IfOk result (λ found. found ≡ spec.param_bearer bytes.now (option_map (λ m. method_view m.now) method.entry) name.now at) }
 {
-    let spans = params_of(alloc, symbols, method)?;
+    let spans = params_of(alloc, method)?;
     Ok(as_bearer(Bearer::Parameter, first_other(bytes, name, at, &spans)))
 }
 
@@ -102,16 +94,15 @@ fn param_bearer(
 #[tactic(auto, unfolding(crate::specs::Bearers::local_bearer))]
 fn local_bearer(
     alloc: Global,
-    symbols: &Symbols,
     bytes: &[u8],
     entity: &Entity,
     method: Option<&MethodDef>,
     name: &[u8],
     at: u32,
 ) -> Result<Found, AllocError>
-    ensures { IfOk result (λ found. found ≡ spec.local_bearer bytes.now (entity_view symbols.now entity.now) (option_map (λ m. method_view symbols.now m.now) method.entry) name.now at) }
+    ensures { IfOk result (λ found. found ≡ spec.local_bearer bytes.now (entity_view entity.now) (option_map (λ m. method_view m.now) method.entry) name.now at) }
 {
-    let marks = marks_at(alloc, symbols, at, entity, method)?;
+    let marks = marks_at(alloc, at, entity, method)?;
     let mut spans = Vec::new(alloc);
     push_locals(&mut spans, &marks)?;
     Ok(as_bearer(Bearer::Local, first_other(bytes, name, at, &spans)))
@@ -121,15 +112,14 @@ fn local_bearer(
 #[tactic(auto, unfolding(crate::specs::Bearers::field_bearer))]
 fn field_bearer(
     alloc: Global,
-    symbols: &Symbols,
     bytes: &[u8],
     fields: &[FieldDef],
     name: &[u8],
     at: u32,
 ) -> Result<Found, AllocError>
-    ensures { IfOk result (λ found. found ≡ spec.field_bearer bytes.now (map (field_view symbols.now) fields.now) name.now at) }
+    ensures { IfOk result (λ found. found ≡ spec.field_bearer bytes.now (map field_view fields.now) name.now at) }
 {
-    let spans = field_spans(alloc, symbols, fields)?;
+    let spans = field_spans(alloc, fields)?;
     Ok(as_bearer(Bearer::Field, first_other(bytes, name, at, &spans)))
 }
 
@@ -137,15 +127,14 @@ fn field_bearer(
 #[tactic(auto, unfolding(crate::specs::Bearers::method_bearer))]
 fn method_bearer(
     alloc: Global,
-    symbols: &Symbols,
     bytes: &[u8],
     methods: &[MethodDef],
     name: &[u8],
     at: u32,
 ) -> Result<Found, AllocError>
-    ensures { IfOk result (λ found. found ≡ spec.method_bearer bytes.now (map (method_view symbols.now) methods.now) name.now at) }
+    ensures { IfOk result (λ found. found ≡ spec.method_bearer bytes.now (map method_view methods.now) name.now at) }
 {
-    let spans = method_spans(alloc, symbols, methods)?;
+    let spans = method_spans(alloc, methods)?;
     Ok(as_bearer(Bearer::Method, first_other(bytes, name, at, &spans)))
 }
 
@@ -159,31 +148,17 @@ fn outer_bearer(
     name: &[u8],
     at: u32,
 ) -> Result<Found, AllocError>
-    ensures { IfOk result (λ found. found ≡ spec.outer_bearer bytes.now (file_view file.now) (entity_view file.now.symbols entity.now) name.now at) }
+    ensures { IfOk result (λ found. found ≡ spec.outer_bearer bytes.now (file_view file.now) (entity_view entity.now) name.now at) }
 {
-    let found = field_bearer(
-        alloc,
-        &file.symbols,
-        bytes,
-        entity.fields.as_slice(),
-        name,
-        at,
-    )?;
+    let found = field_bearer(alloc, bytes, entity.fields.as_slice(), name, at)?;
     if found.is_some() {
         return Ok(found);
     }
-    let found = method_bearer(
-        alloc,
-        &file.symbols,
-        bytes,
-        entity.methods.as_slice(),
-        name,
-        at,
-    )?;
+    let found = method_bearer(alloc, bytes, entity.methods.as_slice(), name, at)?;
     if found.is_some() {
         return Ok(found);
     }
-    Ok(entity_bearer(&file.symbols, bytes, name, at, file.entities.as_slice()))
+    Ok(entity_bearer(bytes, name, at, file.entities.as_slice()))
 }
 
 /// The first thing with this name, other than at this byte, that is visible there: a parameter, a local, a field, a
@@ -198,13 +173,13 @@ pub(crate) fn bearer_of(
     name: &[u8],
     at: u32,
 ) -> Result<Found, AllocError>
-    ensures { IfOk result (λ found. found ≡ spec.bearer_of bytes.now (file_view file.now) (entity_view file.now.symbols entity.now) (option_map (λ m. method_view file.now.symbols m.now) method.entry) name.now at) }
+    ensures { IfOk result (λ found. found ≡ spec.bearer_of bytes.now (file_view file.now) (entity_view entity.now) (option_map (λ m. method_view m.now) method.entry) name.now at) }
 {
-    let found = param_bearer(alloc, &file.symbols, bytes, method, name, at)?;
+    let found = param_bearer(alloc, bytes, method, name, at)?;
     if found.is_some() {
         return Ok(found);
     }
-    let found = local_bearer(alloc, &file.symbols, bytes, entity, method, name, at)?;
+    let found = local_bearer(alloc, bytes, entity, method, name, at)?;
     if found.is_some() {
         return Ok(found);
     }
@@ -215,32 +190,17 @@ pub(crate) fn bearer_of(
 #[tactic(auto, unfolding(crate::specs::Bearers::create_bearer))]
 pub(crate) fn create_bearer(
     alloc: Global,
-    symbols: &Symbols,
     bytes: &[u8],
     entity: &Entity,
     at: u32,
 ) -> Result<Found, AllocError>
-    ensures { IfOk result (λ found. found ≡ spec.create_bearer bytes.now (entity_view symbols.now entity.now) at) }
+    ensures { IfOk result (λ found. found ≡ spec.create_bearer bytes.now (entity_view entity.now) at) }
 {
-    let found = field_bearer(
-        alloc,
-        symbols,
-        bytes,
-        entity.fields.as_slice(),
-        b"create",
-        at,
-    )?;
+    let found = field_bearer(alloc, bytes, entity.fields.as_slice(), b"create", at)?;
     if found.is_some() {
         return Ok(found);
     }
-    method_bearer(
-        alloc,
-        symbols,
-        bytes,
-        entity.methods.as_slice(),
-        b"create",
-        at,
-    )
+    method_bearer(alloc, bytes, entity.methods.as_slice(), b"create", at)
 }
 
 // Whether the name is this text.
@@ -285,11 +245,11 @@ pub(crate) fn is_built_in(name: &[u8]) -> bool
 }
 
 // The kind of the entity with this name, if a file has it.
-fn kind_named(symbols: &Symbols, name: &[u8], entities: &[Entity]) -> Option<EntityKind>
-    ensures { result ≡ spec.kind_named name.now (map (entity_view symbols.now) entities.now) }
+fn kind_named(name: &[u8], entities: &[Entity]) -> Option<EntityKind>
+    ensures { result ≡ spec.kind_named name.now (map entity_view entities.now) }
 {
     for entity in entities {
-        if symbols.spells(entity.name.symbol, name) {
+        if entity.name.text.as_slice() == name {
             return Some(entity.kind);
         }
     }
@@ -298,11 +258,11 @@ fn kind_named(symbols: &Symbols, name: &[u8], entities: &[Entity]) -> Option<Ent
 
 /// The kind of the entity with this name, if every program or the file has it.
 #[tactic(auto, unfolding(crate::specs::Bearers::known_kind))]
-pub(crate) fn known_kind(symbols: &Symbols, name: &[u8], entities: &[Entity]) -> Option<EntityKind>
-    ensures { result ≡ spec.known_kind name.now (map (entity_view symbols.now) entities.now) }
+pub(crate) fn known_kind(name: &[u8], entities: &[Entity]) -> Option<EntityKind>
+    ensures { result ≡ spec.known_kind name.now (map entity_view entities.now) }
 {
     match built_in_kind(name) {
         Some(kind) => Some(kind),
-        None => kind_named(symbols, name, entities),
+        None => kind_named(name, entities),
     }
 }

@@ -2,7 +2,7 @@
 ghost use Rattle.std.specs.Prelude.{◌≡◌, ◌++◌, IfOk, OnOk};
 ghost use Rattle.std.specs.Option.{option_map};
 ghost use Rattle.pc_explain_names.specs.NameLines as spec;
-ghost use Rattle.pc_tree.specs.View.{method_view, entity_view, file_view};
+ghost use Rattle.pc_tree.specs.View.{entity_view, file_view, method_view};
 
 use crate::bearers::{Bearer, bearer_of, bearer_word, create_bearer, is_built_in};
 use crate::lists::first_other;
@@ -10,7 +10,6 @@ use crate::spans::name_spans;
 use crate::unknown::{is_provided, push_node_line};
 use pc_base::Span;
 use pc_explain_window::{piece_of, push_bytes, push_piece, push_place, push_quoted};
-use pc_symbols::Symbols;
 use pc_tree::{Entity, File, MethodDef};
 use std::alloc::{AllocError, Global};
 
@@ -103,22 +102,17 @@ fn push_taken_lines(alloc: Global, out: &mut Vec<u8>, name: &[u8]) -> Result<(),
 #[tactic(auto, unfolding(crate::specs::NameLines::added_at))]
 fn push_added_at(
     alloc: Global,
-    symbols: &Symbols,
     out: &mut Vec<u8>,
     bytes: &[u8],
     entity: &Entity,
     at: u32,
 ) -> Result<(), AllocError>
-    ensures { OnOk result (out.new.items ≡ out.old.items ++ spec.added_at bytes.now (entity_view symbols.now entity.now) at) }
+    ensures { OnOk result (out.new.items ≡ out.old.items ++ spec.added_at bytes.now (entity_view entity.now) at) }
 {
     push_bytes(out, b" at ")?;
     push_place(alloc, out, bytes, at)?;
     push_bytes(out, b", and a constructor `create` is added to ")?;
-    push_piece(
-        alloc,
-        out,
-        symbols.spelled(alloc, entity.name.symbol)?.as_slice(),
-    )?;
+    push_piece(alloc, out, entity.name.text.as_slice())?;
     push_bytes(out, b", which has none\n")
 }
 
@@ -126,37 +120,33 @@ fn push_added_at(
 #[tactic(auto, unfolding(crate::specs::NameLines::added_line))]
 fn push_added_line(
     alloc: Global,
-    symbols: &Symbols,
     out: &mut Vec<u8>,
     bytes: &[u8],
     entity: &Entity,
     bearer: Bearer,
     at: u32,
 ) -> Result<(), AllocError>
-    ensures { OnOk result (out.new.items ≡ out.old.items ++ spec.added_line bytes.now (entity_view symbols.now entity.now) bearer at) }
+    ensures { OnOk result (out.new.items ≡ out.old.items ++ spec.added_line bytes.now (entity_view entity.now) bearer at) }
 {
     push_bytes(out, b"rule name: `create` is the name of the ")?;
     push_bytes(out, bearer_word(bearer))?;
-    push_added_at(alloc, symbols, out, bytes, entity, at)
+    push_added_at(alloc, out, bytes, entity, at)
 }
 
 // Appends the line about the field or method `create`, if there is one.
 #[tactic(auto, unfolding(crate::specs::NameLines::added_rule))]
 fn push_added_rule(
     alloc: Global,
-    symbols: &Symbols,
     out: &mut Vec<u8>,
     bytes: &[u8],
     entity: &Entity,
     found: Option<(Bearer, Span)>,
 ) -> Result<(), AllocError>
-    ensures { OnOk result (out.new.items ≡ out.old.items ++ spec.added_rule bytes.now (entity_view symbols.now entity.now) found) }
+    ensures { OnOk result (out.new.items ≡ out.old.items ++ spec.added_rule bytes.now (entity_view entity.now) found) }
 {
     match found {
         None => Ok(()),
-        Some((bearer, span)) => push_added_line(
-            alloc, symbols, out, bytes, entity, bearer, span.start,
-        ),
+        Some((bearer, span)) => push_added_line(alloc, out, bytes, entity, bearer, span.start),
     }
 }
 
@@ -164,18 +154,17 @@ fn push_added_rule(
 #[tactic(auto, unfolding(crate::specs::NameLines::added_lines))]
 fn push_added_lines(
     alloc: Global,
-    symbols: &Symbols,
     out: &mut Vec<u8>,
     bytes: &[u8],
     entity: &Entity,
     method: Option<&MethodDef>,
     at: u32,
 ) -> Result<(), AllocError>
-    ensures { OnOk result (out.new.items ≡ out.old.items ++ spec.added_lines bytes.now (entity_view symbols.now entity.now) (option_map (λ m. method_view symbols.now m.now) method.entry) at) }
+    ensures { OnOk result (out.new.items ≡ out.old.items ++ spec.added_lines bytes.now (entity_view entity.now) (option_map (λ m. method_view m.now) method.entry) at) }
 {
-    let found = create_bearer(alloc, symbols, bytes, entity, at)?;
-    push_node_line(alloc, symbols, out, b"create", entity, method)?;
-    push_added_rule(alloc, symbols, out, bytes, entity, found)?;
+    let found = create_bearer(alloc, bytes, entity, at)?;
+    push_node_line(alloc, out, b"create", entity, method)?;
+    push_added_rule(alloc, out, bytes, entity, found)?;
     push_other_name_hint(out)
 }
 
@@ -218,13 +207,12 @@ fn push_again_rule(
 #[tactic(auto, unfolding(crate::specs::NameLines::first_provided))]
 fn first_provided(
     alloc: Global,
-    symbols: &Symbols,
     bytes: &[u8],
     name: &[u8],
     entity: &Entity,
     at: u32,
 ) -> Result<Option<Span>, AllocError>
-    ensures { IfOk result (λ found. found ≡ spec.first_provided bytes.now name.now (entity_view symbols.now entity.now) at) }
+    ensures { IfOk result (λ found. found ≡ spec.first_provided bytes.now name.now (entity_view entity.now) at) }
 {
     let spans = name_spans(alloc, entity.provides.as_slice())?;
     Ok(first_other(bytes, name, at, &spans))
@@ -234,7 +222,6 @@ fn first_provided(
 #[tactic(auto, unfolding(crate::specs::NameLines::again_lines))]
 fn push_again_lines(
     alloc: Global,
-    symbols: &Symbols,
     out: &mut Vec<u8>,
     bytes: &[u8],
     name: &[u8],
@@ -242,10 +229,10 @@ fn push_again_lines(
     method: Option<&MethodDef>,
     at: u32,
 ) -> Result<(), AllocError>
-    ensures { OnOk result (out.new.items ≡ out.old.items ++ spec.again_lines bytes.now name.now (entity_view symbols.now entity.now) (option_map (λ m. method_view symbols.now m.now) method.entry) at) }
+    ensures { OnOk result (out.new.items ≡ out.old.items ++ spec.again_lines bytes.now name.now (entity_view entity.now) (option_map (λ m. method_view m.now) method.entry) at) }
 {
-    let found = first_provided(alloc, symbols, bytes, name, entity, at)?;
-    push_node_line(alloc, symbols, out, name, entity, method)?;
+    let found = first_provided(alloc, bytes, name, entity, at)?;
+    push_node_line(alloc, out, name, entity, method)?;
     push_again_rule(alloc, out, bytes, name, found)?;
     push_bytes(out, b"hint: take one of the two away\n")
 }
@@ -254,7 +241,6 @@ fn push_again_lines(
 #[tactic(auto, unfolding(crate::specs::NameLines::unborne_lines))]
 fn push_unborne_lines(
     alloc: Global,
-    symbols: &Symbols,
     out: &mut Vec<u8>,
     bytes: &[u8],
     name: &[u8],
@@ -262,15 +248,15 @@ fn push_unborne_lines(
     method: Option<&MethodDef>,
     at: u32,
 ) -> Result<(), AllocError>
-    ensures { OnOk result (out.new.items ≡ out.old.items ++ spec.unborne_lines bytes.now name.now (entity_view symbols.now entity.now) (option_map (λ m. method_view symbols.now m.now) method.entry) at) }
+    ensures { OnOk result (out.new.items ≡ out.old.items ++ spec.unborne_lines bytes.now name.now (entity_view entity.now) (option_map (λ m. method_view m.now) method.entry) at) }
 {
     if is_built_in(name) {
-        push_node_line(alloc, symbols, out, name, entity, method)?;
+        push_node_line(alloc, out, name, entity, method)?;
         push_built_in_lines(alloc, out, name)
     } else if entity.name.span.start == at {
-        push_added_lines(alloc, symbols, out, bytes, entity, method, at)
+        push_added_lines(alloc, out, bytes, entity, method, at)
     } else {
-        push_node_line(alloc, symbols, out, name, entity, method)?;
+        push_node_line(alloc, out, name, entity, method)?;
         push_taken_lines(alloc, out, name)
     }
 }
@@ -279,7 +265,6 @@ fn push_unborne_lines(
 #[tactic(auto, unfolding(crate::specs::NameLines::borne_lines))]
 fn push_borne_lines(
     alloc: Global,
-    symbols: &Symbols,
     out: &mut Vec<u8>,
     bytes: &[u8],
     name: &[u8],
@@ -288,12 +273,12 @@ fn push_borne_lines(
     at: u32,
     found: Option<(Bearer, Span)>,
 ) -> Result<(), AllocError>
-    ensures { OnOk result (out.new.items ≡ out.old.items ++ spec.borne_lines bytes.now name.now (entity_view symbols.now entity.now) (option_map (λ m. method_view symbols.now m.now) method.entry) at found) }
+    ensures { OnOk result (out.new.items ≡ out.old.items ++ spec.borne_lines bytes.now name.now (entity_view entity.now) (option_map (λ m. method_view m.now) method.entry) at found) }
 {
     match found {
-        None => push_unborne_lines(alloc, symbols, out, bytes, name, entity, method, at),
+        None => push_unborne_lines(alloc, out, bytes, name, entity, method, at),
         Some((bearer, span)) => {
-            push_node_line(alloc, symbols, out, name, entity, method)?;
+            push_node_line(alloc, out, name, entity, method)?;
             push_bearer_lines(alloc, out, bytes, name, bearer, span.start)
         }
     }
@@ -311,20 +296,10 @@ fn push_named_lines(
     method: Option<&MethodDef>,
     at: u32,
 ) -> Result<(), AllocError>
-    ensures { OnOk result (out.new.items ≡ out.old.items ++ spec.named_lines bytes.now (file_view file.now) name.now (entity_view file.now.symbols entity.now) (option_map (λ m. method_view file.now.symbols m.now) method.entry) at) }
+    ensures { OnOk result (out.new.items ≡ out.old.items ++ spec.named_lines bytes.now (file_view file.now) name.now (entity_view entity.now) (option_map (λ m. method_view m.now) method.entry) at) }
 {
     let found = bearer_of(alloc, bytes, file, entity, method, name, at)?;
-    push_borne_lines(
-        alloc,
-        &file.symbols,
-        out,
-        bytes,
-        name,
-        entity,
-        method,
-        at,
-        found,
-    )
+    push_borne_lines(alloc, out, bytes, name, entity, method, at, found)
 }
 
 /// Appends the lines about a name that is taken, in an entity and its method.
@@ -338,20 +313,11 @@ pub(crate) fn push_double_lines(
     entity: &Entity,
     method: Option<&MethodDef>,
 ) -> Result<(), AllocError>
-    ensures { OnOk result (out.new.items ≡ out.old.items ++ spec.double_lines bytes.now (file_view file.now) span (entity_view file.now.symbols entity.now) (option_map (λ m. method_view file.now.symbols m.now) method.entry)) }
+    ensures { OnOk result (out.new.items ≡ out.old.items ++ spec.double_lines bytes.now (file_view file.now) span (entity_view entity.now) (option_map (λ m. method_view m.now) method.entry)) }
 {
     let name = piece_of(bytes, span);
-    if is_provided(alloc, &file.symbols, entity, span.start)? {
-        push_again_lines(
-            alloc,
-            &file.symbols,
-            out,
-            bytes,
-            name,
-            entity,
-            method,
-            span.start,
-        )
+    if is_provided(alloc, entity, span.start)? {
+        push_again_lines(alloc, out, bytes, name, entity, method, span.start)
     } else {
         push_named_lines(alloc, out, bytes, file, name, entity, method, span.start)
     }

@@ -127,9 +127,9 @@ fn push_unknown_with(
     entity: &Entity,
     members: &[Member],
 ) -> Result<(), AllocError>
-    ensures { OnOk result (out.new.items ≡ out.old.items ++ lines.unknown_lines bytes.now (file_view file.now) span (entity_view file.now.symbols entity.now) (members_view file.now.symbols members.now) (method_is (entity_view file.now.symbols entity.now) span.start)) }
+    ensures { OnOk result (out.new.items ≡ out.old.items ++ lines.unknown_lines bytes.now (file_view file.now) span (entity_view entity.now) (members_view members.now) (method_is (entity_view entity.now) span.start)) }
 {
-    let method = method_at(alloc, &file.symbols, entity, span.start)?;
+    let method = method_at(alloc, entity, span.start)?;
     push_unknown_lines(alloc, out, bytes, file, span, entity, members, method)
 }
 
@@ -143,11 +143,11 @@ fn push_unknown_of(
     span: Span,
     entity: &Entity,
 ) -> Result<(), AllocError>
-    ensures { OnOk result (out.new.items ≡ out.old.items ++ spec.unknown_in bytes.now (file_view file.now) span (Some (entity_view file.now.symbols entity.now))) }
+    ensures { OnOk result (out.new.items ≡ out.old.items ++ spec.unknown_in bytes.now (file_view file.now) span (Some (entity_view entity.now))) }
 {
     let rows = list_rows(alloc, file)?;
     let place = place_at(alloc, file, span.start)?;
-    match last_row(&file.symbols, &rows, place) {
+    match last_row(&rows, place) {
         Some(row) => push_unknown_with(alloc, out, bytes, file, span, entity, row.as_slice()),
         None => push_unknown_with(alloc, out, bytes, file, span, entity, &[]),
     }
@@ -178,9 +178,9 @@ fn push_double_of(
     span: Span,
     entity: &Entity,
 ) -> Result<(), AllocError>
-    ensures { OnOk result (out.new.items ≡ out.old.items ++ spec.double_in bytes.now (file_view file.now) span (Some (entity_view file.now.symbols entity.now))) }
+    ensures { OnOk result (out.new.items ≡ out.old.items ++ spec.double_in bytes.now (file_view file.now) span (Some (entity_view entity.now))) }
 {
-    let method = method_at(alloc, &file.symbols, entity, span.start)?;
+    let method = method_at(alloc, entity, span.start)?;
     push_double_lines(alloc, out, bytes, file, span, entity, method)
 }
 

@@ -2,10 +2,9 @@
 //! name there is used.
 ghost use Rattle.std.specs.Prelude.{◌≡◌, ◌++◌, ◌∷◌, [], OnOk};
 ghost use Rattle.pc_explain_names.specs.Marks as spec;
-ghost use Rattle.pc_tree.specs.View.{expr_view, item_view, suffix_view, arm_view, seq_view, exprs_view, suffixes_view, arms_view, items_view, other_view};
+ghost use Rattle.pc_tree.specs.View.{arm_view, arms_view, expr_view, exprs_view, item_view, items_view, other_view, seq_view, suffix_view, suffixes_view};
 
 use pc_base::Span;
-use pc_symbols::Symbols;
 use pc_tree::{Arm, Expr, Item, Seq, Suffix};
 use std::alloc::AllocError;
 
@@ -42,8 +41,8 @@ fn push_when(out: &mut Vec<Mark>, met: bool, mark: Mark) -> Result<(), AllocErro
 }
 
 // The place of the type's name, if an expression is a type.
-fn type_in(symbols: &Symbols, head: &Expr) -> Option<Span>
-    ensures { result ≡ spec.type_name_in (expr_view symbols.now head.now) }
+fn type_in(head: &Expr) -> Option<Span>
+    ensures { result ≡ spec.type_name_in (expr_view head.now) }
 {
     match head {
         Expr::TypeName(name) => Some(name.span),
@@ -81,163 +80,130 @@ fn push_constructor(
 
 /// Appends what is found in an expression.
 #[cycle(met)]
-pub(crate) fn push_expr(
-    symbols: &Symbols,
-    out: &mut Vec<Mark>,
-    at: u32,
-    expression: &Expr,
-) -> Result<(), AllocError>
-    ensures { OnOk result (out.new.items ≡ out.old.items ++ spec.expr_marks at (expr_view symbols.now expression.now)) }
+pub(crate) fn push_expr(out: &mut Vec<Mark>, at: u32, expression: &Expr) -> Result<(), AllocError>
+    ensures { OnOk result (out.new.items ≡ out.old.items ++ spec.expr_marks at (expr_view expression.now)) }
 {
     match expression {
         Expr::Number { .. } | Expr::Truth { .. } | Expr::Text { .. } | Expr::This(_) => Ok(()),
         Expr::Name(name) => push_when(out, name.span.start == at, Mark::Bare),
         Expr::TypeName(name) => push_when(out, name.span.start == at, Mark::Type),
         Expr::Consume { name, .. } => push_when(out, name.span.start == at, Mark::Consumed),
-        Expr::Not { inner, .. } => push_expr(symbols, out, at, inner),
-        Expr::Infix { terms, .. } => push_exprs(symbols, out, at, terms.as_slice()),
+        Expr::Not { inner, .. } => push_expr(out, at, inner),
+        Expr::Infix { terms, .. } => push_exprs(out, at, terms.as_slice()),
         Expr::Chain { head, suffixes, .. } => {
-            push_expr(symbols, out, at, head)?;
-            push_suffixes(
-                symbols,
-                out,
-                at,
-                type_in(symbols, head),
-                suffixes.as_slice(),
-            )
+            push_expr(out, at, head)?;
+            push_suffixes(out, at, type_in(head), suffixes.as_slice())
         }
-        Expr::Group { body, .. } => push_seq(symbols, out, at, body),
+        Expr::Group { body, .. } => push_seq(out, at, body),
         Expr::If { arms, other, .. } => {
-            push_arms(symbols, out, at, arms.as_slice())?;
-            push_other(symbols, out, at, other)
+            push_arms(out, at, arms.as_slice())?;
+            push_other(out, at, other)
         }
         Expr::While { cond, body, .. } => {
-            push_seq(symbols, out, at, cond)?;
-            push_seq(symbols, out, at, body)
+            push_seq(out, at, cond)?;
+            push_seq(out, at, body)
         }
-        Expr::Recover { body, .. } => push_seq(symbols, out, at, body),
+        Expr::Recover { body, .. } => push_seq(out, at, body),
         Expr::Assign { left, right, .. } => {
-            push_expr(symbols, out, at, left)?;
-            push_expr(symbols, out, at, right)
+            push_expr(out, at, left)?;
+            push_expr(out, at, right)
         }
     }
 }
 
 #[cycle(met)]
-fn push_exprs(
-    symbols: &Symbols,
-    out: &mut Vec<Mark>,
-    at: u32,
-    xs: &[Expr],
-) -> Result<(), AllocError>
-    ensures { OnOk result (out.new.items ≡ out.old.items ++ spec.exprs_marks at (exprs_view symbols.now xs.now)) }
+fn push_exprs(out: &mut Vec<Mark>, at: u32, xs: &[Expr]) -> Result<(), AllocError>
+    ensures { OnOk result (out.new.items ≡ out.old.items ++ spec.exprs_marks at (exprs_view xs.now)) }
 {
     for x in xs {
-        push_expr(symbols, out, at, x)?;
+        push_expr(out, at, x)?;
     }
     Ok(())
 }
 
 #[cycle(met)]
 fn push_suffixes(
-    symbols: &Symbols,
     out: &mut Vec<Mark>,
     at: u32,
     head: Option<Span>,
     xs: &[Suffix],
 ) -> Result<(), AllocError>
-    ensures { OnOk result (out.new.items ≡ out.old.items ++ spec.suffixes_marks at head (suffixes_view symbols.now xs.now)) }
+    ensures { OnOk result (out.new.items ≡ out.old.items ++ spec.suffixes_marks at head (suffixes_view xs.now)) }
 {
     for x in xs {
-        push_suffix(symbols, out, at, head, x)?;
+        push_suffix(out, at, head, x)?;
     }
     Ok(())
 }
 
 #[cycle(met)]
 fn push_suffix(
-    symbols: &Symbols,
     out: &mut Vec<Mark>,
     at: u32,
     head: Option<Span>,
     suffix: &Suffix,
 ) -> Result<(), AllocError>
-    ensures { OnOk result (out.new.items ≡ out.old.items ++ spec.suffix_marks at head (suffix_view symbols.now suffix.now)) }
+    ensures { OnOk result (out.new.items ≡ out.old.items ++ spec.suffix_marks at head (suffix_view suffix.now)) }
 {
     match suffix {
         Suffix::Dot(name) => push_constructor(out, at, head, name.span),
-        Suffix::Args { args, .. } => push_exprs(symbols, out, at, args.as_slice()),
+        Suffix::Args { args, .. } => push_exprs(out, at, args.as_slice()),
     }
 }
 
 #[cycle(met)]
-fn push_arms(symbols: &Symbols, out: &mut Vec<Mark>, at: u32, xs: &[Arm]) -> Result<(), AllocError>
-    ensures { OnOk result (out.new.items ≡ out.old.items ++ spec.arms_marks at (arms_view symbols.now xs.now)) }
+fn push_arms(out: &mut Vec<Mark>, at: u32, xs: &[Arm]) -> Result<(), AllocError>
+    ensures { OnOk result (out.new.items ≡ out.old.items ++ spec.arms_marks at (arms_view xs.now)) }
 {
     for x in xs {
-        push_arm(symbols, out, at, x)?;
+        push_arm(out, at, x)?;
     }
     Ok(())
 }
 
 #[cycle(met)]
-fn push_arm(symbols: &Symbols, out: &mut Vec<Mark>, at: u32, arm: &Arm) -> Result<(), AllocError>
-    ensures { OnOk result (out.new.items ≡ out.old.items ++ spec.arm_marks at (arm_view symbols.now arm.now)) }
+fn push_arm(out: &mut Vec<Mark>, at: u32, arm: &Arm) -> Result<(), AllocError>
+    ensures { OnOk result (out.new.items ≡ out.old.items ++ spec.arm_marks at (arm_view arm.now)) }
 {
-    push_seq(symbols, out, at, &arm.cond)?;
-    push_seq(symbols, out, at, &arm.body)
+    push_seq(out, at, &arm.cond)?;
+    push_seq(out, at, &arm.body)
 }
 
 #[cycle(met)]
-fn push_other(
-    symbols: &Symbols,
-    out: &mut Vec<Mark>,
-    at: u32,
-    other: &Option<Box<Seq>>,
-) -> Result<(), AllocError>
-    ensures { OnOk result (out.new.items ≡ out.old.items ++ spec.other_marks at (other_view symbols.now other.now)) }
+fn push_other(out: &mut Vec<Mark>, at: u32, other: &Option<Box<Seq>>) -> Result<(), AllocError>
+    ensures { OnOk result (out.new.items ≡ out.old.items ++ spec.other_marks at (other_view other.now)) }
 {
     match other {
-        Some(seq) => push_seq(symbols, out, at, seq),
+        Some(seq) => push_seq(out, at, seq),
         None => Ok(()),
     }
 }
 
 /// Appends what is found in a sequence.
 #[cycle(met)]
-pub(crate) fn push_seq(
-    symbols: &Symbols,
-    out: &mut Vec<Mark>,
-    at: u32,
-    seq: &Seq,
-) -> Result<(), AllocError>
-    ensures { OnOk result (out.new.items ≡ out.old.items ++ spec.seq_marks at (seq_view symbols.now seq.now)) }
+pub(crate) fn push_seq(out: &mut Vec<Mark>, at: u32, seq: &Seq) -> Result<(), AllocError>
+    ensures { OnOk result (out.new.items ≡ out.old.items ++ spec.seq_marks at (seq_view seq.now)) }
 {
     if holds(seq.span, at) {
-        push_items(symbols, out, at, seq.items.as_slice())
+        push_items(out, at, seq.items.as_slice())
     } else {
         Ok(())
     }
 }
 
 #[cycle(met)]
-fn push_items(
-    symbols: &Symbols,
-    out: &mut Vec<Mark>,
-    at: u32,
-    xs: &[Item],
-) -> Result<(), AllocError>
-    ensures { OnOk result (out.new.items ≡ out.old.items ++ spec.items_marks at (items_view symbols.now xs.now)) }
+fn push_items(out: &mut Vec<Mark>, at: u32, xs: &[Item]) -> Result<(), AllocError>
+    ensures { OnOk result (out.new.items ≡ out.old.items ++ spec.items_marks at (items_view xs.now)) }
 {
     for x in xs {
-        push_item(symbols, out, at, x)?;
+        push_item(out, at, x)?;
     }
     Ok(())
 }
 
 #[cycle(met)]
-fn push_item(symbols: &Symbols, out: &mut Vec<Mark>, at: u32, item: &Item) -> Result<(), AllocError>
-    ensures { OnOk result (out.new.items ≡ out.old.items ++ spec.item_marks at (item_view symbols.now item.now)) }
+fn push_item(out: &mut Vec<Mark>, at: u32, item: &Item) -> Result<(), AllocError>
+    ensures { OnOk result (out.new.items ≡ out.old.items ++ spec.item_marks at (item_view item.now)) }
 {
     match item {
         Item::Local {
@@ -246,10 +212,10 @@ fn push_item(symbols: &Symbols, out: &mut Vec<Mark>, at: u32, item: &Item) -> Re
             span,
             ..
         } => {
-            push_expr(symbols, out, at, value)?;
+            push_expr(out, at, value)?;
             push_when(out, span.end <= at, Mark::Local(name.span))
         }
-        Item::Plain(expression) => push_expr(symbols, out, at, expression),
+        Item::Plain(expression) => push_expr(out, at, expression),
     }
 }
 

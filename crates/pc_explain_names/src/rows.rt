@@ -13,7 +13,6 @@ use pc_base::List;
 use pc_explain_window::{push_bytes, push_quoted};
 use pc_members::{Member, list_members};
 use pc_names::{NameFault, Names, collect};
-use pc_symbols::Symbols;
 use pc_tree::File;
 use std::alloc::{AllocError, Global};
 
@@ -24,7 +23,7 @@ fn members_of<'a>(
     names: &Names,
 ) -> Result<List<List<Member<'a>>>, AllocError>
     requires { Collected (file_view file.now) names.now }
-    ensures { IfOk result (λ l. table_view file.now.symbols l ≡ map (members (file_view file.now).entities) (file_view file.now).entities) }
+    ensures { IfOk result (λ l. table_view l ≡ map (members (file_view file.now).entities) (file_view file.now).entities) }
 {
     list_members(alloc, names.entities(), names.all_above(), file)
 }
@@ -49,7 +48,7 @@ pub(crate) fn list_rows<'a>(
     alloc: Global,
     file: &'a File,
 ) -> Result<List<List<Member<'a>>>, AllocError>
-    ensures { IfOk result (λ l. table_view file.now.symbols l ≡ spec.rows (file_view file.now)) }
+    ensures { IfOk result (λ l. table_view l ≡ spec.rows (file_view file.now)) }
 {
     match collect(alloc, file) {
         Ok(names) => members_of(alloc, file, &names),
@@ -62,11 +61,10 @@ pub(crate) fn list_rows<'a>(
 
 /// The last of the first `count` rows.
 pub(crate) fn last_row<'t, 'a>(
-    symbols: &Symbols,
     rows: &'t List<List<Member<'a>>>,
     count: usize,
 ) -> Option<&'t List<Member<'a>>>
-    ensures { option_map (λ r. members_view symbols.now r.now) result ≡ last_of_first count (table_view symbols.now rows.now) }
+    ensures { option_map (λ r. members_view r.now) result ≡ last_of_first count (table_view rows.now) }
 {
     if count == 0 {
         None
@@ -77,11 +75,11 @@ pub(crate) fn last_row<'t, 'a>(
 
 /// Whether one of the members has this name.
 #[tactic(auto, unfolding(crate::specs::Rows::has_member))]
-pub(crate) fn has_member(symbols: &Symbols, name: &[u8], members: &[Member]) -> bool
-    ensures { result ≡ spec.has_member name.now (members_view symbols.now members.now) }
+pub(crate) fn has_member(name: &[u8], members: &[Member]) -> bool
+    ensures { result ≡ spec.has_member name.now (members_view members.now) }
 {
     for member in members {
-        if symbols.spells(member.symbol(symbols), name) {
+        if member.text() == name {
             return true;
         }
     }
@@ -91,33 +89,27 @@ pub(crate) fn has_member(symbols: &Symbols, name: &[u8], members: &[Member]) -> 
 // Appends the member's name, after a comma unless it is the first.
 fn push_one_member(
     alloc: Global,
-    symbols: &Symbols,
     out: &mut Vec<u8>,
     first: bool,
     member: Member,
 ) -> Result<(), AllocError>
-    ensures { OnOk result (out.new.items ≡ out.old.items ++ spec.one_member first (member_view symbols.now member.entry)) }
+    ensures { OnOk result (out.new.items ≡ out.old.items ++ spec.one_member first (member_view member.entry)) }
 {
     push_bytes(out, between(first))?;
-    push_quoted(
-        alloc,
-        out,
-        symbols.spelled(alloc, member.symbol(symbols))?.as_slice(),
-    )
+    push_quoted(alloc, out, member.text())
 }
 
 // Appends the members' names between backquotes, with a comma between any two.
 fn push_listed_members(
     alloc: Global,
-    symbols: &Symbols,
     out: &mut Vec<u8>,
     members: &[Member],
 ) -> Result<(), AllocError>
-    ensures { OnOk result (out.new.items ≡ out.old.items ++ spec.listed_members true (members_view symbols.now members.now)) }
+    ensures { OnOk result (out.new.items ≡ out.old.items ++ spec.listed_members true (members_view members.now)) }
 {
     let mut first = true;
     'members: for member in members {
-        push_one_member(alloc, symbols, out, first, *member)?;
+        push_one_member(alloc, out, first, *member)?;
         first = false;
     }
     Ok(())
@@ -127,16 +119,15 @@ fn push_listed_members(
 #[tactic(auto, unfolding(crate::specs::Rows::member_names))]
 pub(crate) fn push_member_names(
     alloc: Global,
-    symbols: &Symbols,
     out: &mut Vec<u8>,
     members: &[Member],
 ) -> Result<(), AllocError>
-    ensures { OnOk result (out.new.items ≡ out.old.items ++ spec.member_names (members_view symbols.now members.now)) }
+    ensures { OnOk result (out.new.items ≡ out.old.items ++ spec.member_names (members_view members.now)) }
 {
     match members {
         [] => push_bytes(out, b"none"),
         [_, ..] => {
-            push_listed_members(alloc, symbols, out, &members[..MOST.min(members.len())])?;
+            push_listed_members(alloc, out, &members[..MOST.min(members.len())])?;
             push_rest(alloc, out, members.len())
         }
     }

@@ -4,7 +4,7 @@ ghost use Rattle.std.specs.List.{list_any};
 ghost use Rattle.std.specs.Option.{option_map};
 ghost use Rattle.pc_explain_names.specs.NameLines as spec;
 ghost use Rattle.pc_members.specs.Views.{members_view};
-ghost use Rattle.pc_tree.specs.View.{method_view, entity_view, file_view};
+ghost use Rattle.pc_tree.specs.View.{entity_view, file_view, method_view};
 
 use crate::bearers::{kind_word, known_kind};
 use crate::homes::{marks_at, visible_at};
@@ -15,27 +15,21 @@ use crate::spans::{field_spans, method_spans, name_spans};
 use pc_base::Span;
 use pc_explain_window::{piece_of, push_bytes, push_piece, push_quoted};
 use pc_members::Member;
-use pc_symbols::Symbols;
 use pc_tree::{Entity, EntityKind, File, MethodDef};
 use std::alloc::{AllocError, Global};
 
 // Appends a dot and the method's name, if there is a method.
 fn push_method_part(
     alloc: Global,
-    symbols: &Symbols,
     out: &mut Vec<u8>,
     method: Option<&MethodDef>,
 ) -> Result<(), AllocError>
-    ensures { OnOk result (out.new.items ≡ out.old.items ++ spec.method_part (option_map (λ m. method_view symbols.now m.now) method.entry)) }
+    ensures { OnOk result (out.new.items ≡ out.old.items ++ spec.method_part (option_map (λ m. method_view m.now) method.entry)) }
 {
     match method {
         Some(method) => {
             push_bytes(out, b".")?;
-            push_piece(
-                alloc,
-                out,
-                symbols.spelled(alloc, method.name.symbol)?.as_slice(),
-            )
+            push_piece(alloc, out, method.name.text.as_slice())
         }
         None => Ok(()),
     }
@@ -45,37 +39,31 @@ fn push_method_part(
 #[tactic(auto, unfolding(crate::specs::NameLines::home_of_name))]
 fn push_home(
     alloc: Global,
-    symbols: &Symbols,
     out: &mut Vec<u8>,
     entity: &Entity,
     method: Option<&MethodDef>,
 ) -> Result<(), AllocError>
-    ensures { OnOk result (out.new.items ≡ out.old.items ++ spec.home_of_name (entity_view symbols.now entity.now) (option_map (λ m. method_view symbols.now m.now) method.entry)) }
+    ensures { OnOk result (out.new.items ≡ out.old.items ++ spec.home_of_name (entity_view entity.now) (option_map (λ m. method_view m.now) method.entry)) }
 {
     push_bytes(out, b" in ")?;
-    push_piece(
-        alloc,
-        out,
-        symbols.spelled(alloc, entity.name.symbol)?.as_slice(),
-    )?;
-    push_method_part(alloc, symbols, out, method)
+    push_piece(alloc, out, entity.name.text.as_slice())?;
+    push_method_part(alloc, out, method)
 }
 
 /// Appends the line about the name.
 #[tactic(auto, unfolding(crate::specs::NameLines::name_node_line))]
 pub(crate) fn push_node_line(
     alloc: Global,
-    symbols: &Symbols,
     out: &mut Vec<u8>,
     name: &[u8],
     entity: &Entity,
     method: Option<&MethodDef>,
 ) -> Result<(), AllocError>
-    ensures { OnOk result (out.new.items ≡ out.old.items ++ spec.name_node_line name.now (entity_view symbols.now entity.now) (option_map (λ m. method_view symbols.now m.now) method.entry)) }
+    ensures { OnOk result (out.new.items ≡ out.old.items ++ spec.name_node_line name.now (entity_view entity.now) (option_map (λ m. method_view m.now) method.entry)) }
 {
     push_bytes(out, b"node: the name ")?;
     push_quoted(alloc, out, name)?;
-    push_home(alloc, symbols, out, entity, method)?;
+    push_home(alloc, out, entity, method)?;
     push_bytes(out, b"\n")
 }
 
@@ -83,36 +71,26 @@ pub(crate) fn push_node_line(
 #[tactic(auto, unfolding(crate::specs::NameLines::fields_part))]
 fn push_fields_part(
     alloc: Global,
-    symbols: &Symbols,
     out: &mut Vec<u8>,
     bytes: &[u8],
     entity: &Entity,
 ) -> Result<(), AllocError>
-    ensures { OnOk result (out.new.items ≡ out.old.items ++ spec.fields_part bytes.now (entity_view symbols.now entity.now)) }
+    ensures { OnOk result (out.new.items ≡ out.old.items ++ spec.fields_part bytes.now (entity_view entity.now)) }
 {
-    let fields = field_spans(alloc, symbols, entity.fields.as_slice())?;
+    let fields = field_spans(alloc, entity.fields.as_slice())?;
     push_bytes(out, b"), a field of ")?;
-    push_piece(
-        alloc,
-        out,
-        symbols.spelled(alloc, entity.name.symbol)?.as_slice(),
-    )?;
+    push_piece(alloc, out, entity.name.text.as_slice())?;
     push_bytes(out, b" (")?;
     push_names(alloc, out, bytes, &fields)
 }
 
 // Appends the names of the methods that a bare name may be.
 #[tactic(auto, unfolding(crate::specs::NameLines::methods_part))]
-fn push_methods_part(
-    alloc: Global,
-    symbols: &Symbols,
-    out: &mut Vec<u8>,
-    members: &[Member],
-) -> Result<(), AllocError>
-    ensures { OnOk result (out.new.items ≡ out.old.items ++ spec.methods_part (members_view symbols.now members.now)) }
+fn push_methods_part(alloc: Global, out: &mut Vec<u8>, members: &[Member]) -> Result<(), AllocError>
+    ensures { OnOk result (out.new.items ≡ out.old.items ++ spec.methods_part (members_view members.now)) }
 {
     push_bytes(out, b"), or directly before arguments one of its methods (")?;
-    push_member_names(alloc, symbols, out, members)?;
+    push_member_names(alloc, out, members)?;
     push_bytes(out, b")\n")
 }
 
@@ -120,51 +98,43 @@ fn push_methods_part(
 #[tactic(auto, unfolding(crate::specs::NameLines::members_part))]
 fn push_members_part(
     alloc: Global,
-    symbols: &Symbols,
     out: &mut Vec<u8>,
     bytes: &[u8],
     entity: &Entity,
     members: &[Member],
 ) -> Result<(), AllocError>
-    ensures { OnOk result (out.new.items ≡ out.old.items ++ spec.members_part bytes.now (entity_view symbols.now entity.now) (members_view symbols.now members.now)) }
+    ensures { OnOk result (out.new.items ≡ out.old.items ++ spec.members_part bytes.now (entity_view entity.now) (members_view members.now)) }
 {
-    push_fields_part(alloc, symbols, out, bytes, entity)?;
-    push_methods_part(alloc, symbols, out, members)
+    push_fields_part(alloc, out, bytes, entity)?;
+    push_methods_part(alloc, out, members)
 }
 
 // Appends what a bare name may be.
 #[tactic(auto, unfolding(crate::specs::NameLines::bare_line))]
 fn push_bare_line(
     alloc: Global,
-    symbols: &Symbols,
     out: &mut Vec<u8>,
     bytes: &[u8],
     entity: &Entity,
     members: &[Member],
     visible: &[Span],
 ) -> Result<(), AllocError>
-    ensures { OnOk result (out.new.items ≡ out.old.items ++ spec.bare_line bytes.now (entity_view symbols.now entity.now) (members_view symbols.now members.now) visible.now) }
+    ensures { OnOk result (out.new.items ≡ out.old.items ++ spec.bare_line bytes.now (entity_view entity.now) (members_view members.now) visible.now) }
 {
     push_bytes(
         out,
         b"rule name: a bare name is a visible local or parameter (here ",
     )?;
     push_names(alloc, out, bytes, visible)?;
-    push_members_part(alloc, symbols, out, bytes, entity, members)
+    push_members_part(alloc, out, bytes, entity, members)
 }
 
 // Whether the entity has a field with this name.
 #[tactic(auto, unfolding(crate::specs::NameLines::has_field_named))]
-fn has_field(
-    alloc: Global,
-    symbols: &Symbols,
-    bytes: &[u8],
-    name: &[u8],
-    entity: &Entity,
-) -> Result<bool, AllocError>
-    ensures { IfOk result (λ has. has ≡ spec.has_field_named bytes.now name.now (entity_view symbols.now entity.now)) }
+fn has_field(alloc: Global, bytes: &[u8], name: &[u8], entity: &Entity) -> Result<bool, AllocError>
+    ensures { IfOk result (λ has. has ≡ spec.has_field_named bytes.now name.now (entity_view entity.now)) }
 {
-    let spans = field_spans(alloc, symbols, entity.fields.as_slice())?;
+    let spans = field_spans(alloc, entity.fields.as_slice())?;
     Ok(one_is_named(bytes, name, &spans))
 }
 
@@ -224,7 +194,6 @@ fn push_old_value_hint(
 #[tactic(auto, unfolding(crate::specs::NameLines::bare_lines))]
 fn push_bare_lines(
     alloc: Global,
-    symbols: &Symbols,
     out: &mut Vec<u8>,
     bytes: &[u8],
     name: &[u8],
@@ -232,10 +201,10 @@ fn push_bare_lines(
     members: &[Member],
     visible: &[Span],
 ) -> Result<(), AllocError>
-    ensures { OnOk result (out.new.items ≡ out.old.items ++ spec.bare_lines bytes.now name.now (entity_view symbols.now entity.now) (members_view symbols.now members.now) visible.now) }
+    ensures { OnOk result (out.new.items ≡ out.old.items ++ spec.bare_lines bytes.now name.now (entity_view entity.now) (members_view members.now) visible.now) }
 {
-    push_bare_line(alloc, symbols, out, bytes, entity, members, visible)?;
-    push_call_hint(alloc, out, has_member(symbols, name, members), name)
+    push_bare_line(alloc, out, bytes, entity, members, visible)?;
+    push_call_hint(alloc, out, has_member(name, members), name)
 }
 
 // Appends what may be consumed.
@@ -260,16 +229,15 @@ fn push_consumed_line(
 #[tactic(auto, unfolding(crate::specs::NameLines::consumed_lines))]
 fn push_consumed_lines(
     alloc: Global,
-    symbols: &Symbols,
     out: &mut Vec<u8>,
     bytes: &[u8],
     name: &[u8],
     entity: &Entity,
     visible: &[Span],
 ) -> Result<(), AllocError>
-    ensures { OnOk result (out.new.items ≡ out.old.items ++ spec.consumed_lines bytes.now name.now (entity_view symbols.now entity.now) visible.now) }
+    ensures { OnOk result (out.new.items ≡ out.old.items ++ spec.consumed_lines bytes.now name.now (entity_view entity.now) visible.now) }
 {
-    let named = has_field(alloc, symbols, bytes, name, entity)?;
+    let named = has_field(alloc, bytes, name, entity)?;
     push_consumed_line(alloc, out, bytes, visible)?;
     push_old_value_hint(alloc, out, named, name)
 }
@@ -296,33 +264,26 @@ fn push_constructor_line(
 
 // Whether the entity has a method with this name.
 #[tactic(auto, unfolding(crate::specs::NameLines::has_method_named))]
-fn has_method(
-    alloc: Global,
-    symbols: &Symbols,
-    bytes: &[u8],
-    name: &[u8],
-    entity: &Entity,
-) -> Result<bool, AllocError>
-    ensures { IfOk result (λ has. has ≡ spec.has_method_named bytes.now name.now (entity_view symbols.now entity.now)) }
+fn has_method(alloc: Global, bytes: &[u8], name: &[u8], entity: &Entity) -> Result<bool, AllocError>
+    ensures { IfOk result (λ has. has ≡ spec.has_method_named bytes.now name.now (entity_view entity.now)) }
 {
-    let spans = method_spans(alloc, symbols, entity.methods.as_slice())?;
+    let spans = method_spans(alloc, entity.methods.as_slice())?;
     Ok(one_is_named(bytes, name, &spans))
 }
 
 // Whether the first of these entities with a name has a method with this one.
 fn one_has_method(
     alloc: Global,
-    symbols: &Symbols,
     bytes: &[u8],
     entity: &[u8],
     name: &[u8],
     entities: &[Entity],
 ) -> Result<bool, AllocError>
-    ensures { IfOk result (λ has. has ≡ spec.method_in bytes.now entity.now name.now (map (entity_view symbols.now) entities.now)) }
+    ensures { IfOk result (λ has. has ≡ spec.method_in bytes.now entity.now name.now (map entity_view entities.now)) }
 {
     for one in entities {
-        if symbols.spells(one.name.symbol, entity) {
-            return has_method(alloc, symbols, bytes, name, one);
+        if one.name.text.as_slice() == entity {
+            return has_method(alloc, bytes, name, one);
         }
     }
     Ok(false)
@@ -374,14 +335,7 @@ fn push_constructor_lines(
 ) -> Result<(), AllocError>
     ensures { OnOk result (out.new.items ≡ out.old.items ++ spec.constructor_lines bytes.now (file_view file.now) entity.now name.now) }
 {
-    let named = one_has_method(
-        alloc,
-        &file.symbols,
-        bytes,
-        entity,
-        name,
-        file.entities.as_slice(),
-    )?;
+    let named = one_has_method(alloc, bytes, entity, name, file.entities.as_slice())?;
     push_constructor_line(alloc, out, entity, name)?;
     push_on_object_hint(alloc, out, named, entity, name)
 }
@@ -483,13 +437,8 @@ fn one_begins_at(spans: &[Span], at: u32) -> bool
 
 /// Whether the name at this byte is in the entity's `is` list.
 #[tactic(auto, unfolding(crate::specs::NameLines::is_provided))]
-pub(crate) fn is_provided(
-    alloc: Global,
-    symbols: &Symbols,
-    entity: &Entity,
-    at: u32,
-) -> Result<bool, AllocError>
-    ensures { IfOk result (λ is. is ≡ spec.is_provided (entity_view symbols.now entity.now) at) }
+pub(crate) fn is_provided(alloc: Global, entity: &Entity, at: u32) -> Result<bool, AllocError>
+    ensures { IfOk result (λ is. is ≡ spec.is_provided (entity_view entity.now) at) }
 {
     let spans = name_spans(alloc, entity.provides.as_slice())?;
     Ok(one_begins_at(&spans, at))
@@ -505,10 +454,10 @@ fn push_outside_lines(
     entity: &Entity,
     at: u32,
 ) -> Result<(), AllocError>
-    ensures { OnOk result (out.new.items ≡ out.old.items ++ spec.outside_line name.now (file_view file.now) (entity_view file.now.symbols entity.now) at) }
+    ensures { OnOk result (out.new.items ≡ out.old.items ++ spec.outside_line name.now (file_view file.now) (entity_view entity.now) at) }
 {
-    let provided = is_provided(alloc, &file.symbols, entity, at)?;
-    let kind = known_kind(&file.symbols, name, file.entities.as_slice());
+    let provided = is_provided(alloc, entity, at)?;
+    let kind = known_kind(name, file.entities.as_slice());
     push_type_line(alloc, out, provided, name, kind)
 }
 
@@ -525,34 +474,17 @@ fn push_use_lines(
     visible: &[Span],
     used: Option<Mark>,
 ) -> Result<(), AllocError>
-    ensures { OnOk result (out.new.items ≡ out.old.items ++ spec.use_lines bytes.now (file_view file.now) span (entity_view file.now.symbols entity.now) (members_view file.now.symbols members.now) visible.now used) }
+    ensures { OnOk result (out.new.items ≡ out.old.items ++ spec.use_lines bytes.now (file_view file.now) span (entity_view entity.now) (members_view members.now) visible.now used) }
 {
     let name = piece_of(bytes, span);
     match used {
-        Some(Mark::Bare) => push_bare_lines(
-            alloc,
-            &file.symbols,
-            out,
-            bytes,
-            name,
-            entity,
-            members,
-            visible,
-        ),
-        Some(Mark::Consumed) => push_consumed_lines(
-            alloc,
-            &file.symbols,
-            out,
-            bytes,
-            name,
-            entity,
-            visible,
-        ),
+        Some(Mark::Bare) => push_bare_lines(alloc, out, bytes, name, entity, members, visible),
+        Some(Mark::Consumed) => push_consumed_lines(alloc, out, bytes, name, entity, visible),
         Some(Mark::Constructor(head)) => {
             push_constructor_lines(alloc, out, bytes, file, piece_of(bytes, head), name)
         }
         Some(Mark::Type) => {
-            let kind = known_kind(&file.symbols, name, file.entities.as_slice());
+            let kind = known_kind(name, file.entities.as_slice());
             push_type_line(alloc, out, false, name, kind)
         }
         Some(Mark::Local(_)) => Ok(()),
@@ -572,18 +504,11 @@ pub(crate) fn push_unknown_lines(
     members: &[Member],
     method: Option<&MethodDef>,
 ) -> Result<(), AllocError>
-    ensures { OnOk result (out.new.items ≡ out.old.items ++ spec.unknown_lines bytes.now (file_view file.now) span (entity_view file.now.symbols entity.now) (members_view file.now.symbols members.now) (option_map (λ m. method_view file.now.symbols m.now) method.entry)) }
+    ensures { OnOk result (out.new.items ≡ out.old.items ++ spec.unknown_lines bytes.now (file_view file.now) span (entity_view entity.now) (members_view members.now) (option_map (λ m. method_view m.now) method.entry)) }
 {
-    let marks = marks_at(alloc, &file.symbols, span.start, entity, method)?;
-    let visible = visible_at(alloc, &file.symbols, method, &marks)?;
-    push_node_line(
-        alloc,
-        &file.symbols,
-        out,
-        piece_of(bytes, span),
-        entity,
-        method,
-    )?;
+    let marks = marks_at(alloc, span.start, entity, method)?;
+    let visible = visible_at(alloc, method, &marks)?;
+    push_node_line(alloc, out, piece_of(bytes, span), entity, method)?;
     push_use_lines(
         alloc,
         out,

@@ -4,4 +4,3 @@ pub mod Loops
 pub mod Parts
 pub mod Public
 pub mod Exact
-pub mod Numbers

@@ -112,7 +112,7 @@ arm_reads word body ts = same_behind (take_if (is_word word) ts) _ _ (λ opener 
     same_behind (body rest) _ _ (λ c more. sym (grouped (take_if (is_word w.ThenWord) more) (λ _. body) (λ b. pure (t.arm_of c b (span_from_to opener.span (seq_span b))))))
     ∙ closed_first (body rest) w.ThenWord (λ c _. body >>= λ b. pure (t.arm_of c b (span_from_to opener.span (seq_span b)))))
 
-pub seq_spans : {spellings : List Text} → (b : Seq) → seq_span (seq_view spellings b) ≡ b.span
+pub seq_spans : (b : Seq) → seq_span (seq_view b) ≡ b.span
 seq_spans b = search (rules, the_lemmas)
 
 -- an arm made of parts that are read

@@ -4,7 +4,6 @@ ghost use Rattle.pc_tree.specs.View.{expr_view, suffix_view, suffixes_view};
 ghost use Rattle.pc_grammar.specs.Spells as grammar;
 ghost use Rattle.pc_grammar.specs.Reading as reading;
 
-use pc_symbols::Symbols;
 use pc_token::{Sign, Token, Word, is_sign};
 use pc_tree::{Expr, Suffix};
 
@@ -15,8 +14,8 @@ pub fn local_word(fixed: bool) -> Word
     if fixed { Word::LetWord } else { Word::VarWord }
 }
 
-fn is_dot(symbols: &Symbols, suffix: &Suffix) -> bool
-    ensures { result ≡ grammar.is_dot (suffix_view symbols.now suffix.now) }
+fn is_dot(suffix: &Suffix) -> bool
+    ensures { result ≡ grammar.is_dot (suffix_view suffix.now) }
 {
     match suffix {
         Suffix::Dot(_) => true,
@@ -25,23 +24,23 @@ fn is_dot(symbols: &Symbols, suffix: &Suffix) -> bool
 }
 
 /// Whether the last suffix is a name.
-fn ends_in_dot(symbols: &Symbols, suffixes: &[Suffix]) -> bool
-    ensures { result ≡ grammar.ends_in_dot false (suffixes_view symbols.now suffixes.now) }
+fn ends_in_dot(suffixes: &[Suffix]) -> bool
+    ensures { result ≡ grammar.ends_in_dot false (suffixes_view suffixes.now) }
 {
     let mut dot = false;
     for suffix in suffixes {
-        dot = is_dot(symbols, suffix);
+        dot = is_dot(suffix);
     }
     dot
 }
 
 /// Whether it may come before an `=`.
-fn is_place(symbols: &Symbols, expression: &Expr) -> bool
-    ensures { result ≡ grammar.is_place (expr_view symbols.now expression.now) }
+fn is_place(expression: &Expr) -> bool
+    ensures { result ≡ grammar.is_place (expr_view expression.now) }
 {
     match expression {
         Expr::Name(_) => true,
-        Expr::Chain { suffixes, .. } => ends_in_dot(symbols, suffixes.as_slice()),
+        Expr::Chain { suffixes, .. } => ends_in_dot(suffixes.as_slice()),
         Expr::Number { .. }
         | Expr::Truth { .. }
         | Expr::Text { .. }
@@ -59,8 +58,8 @@ fn is_place(symbols: &Symbols, expression: &Expr) -> bool
 }
 
 /// Whether the token is an `=` after something that can be assigned.
-pub fn assigns(symbols: &Symbols, token: &Token, expression: &Expr) -> bool
-    ensures { result ≡ reading.assigns token.now (expr_view symbols.now expression.now) }
+pub fn assigns(token: &Token, expression: &Expr) -> bool
+    ensures { result ≡ reading.assigns token.now (expr_view expression.now) }
 {
-    is_sign(token, Sign::Assign) && is_place(symbols, expression)
+    is_sign(token, Sign::Assign) && is_place(expression)
 }

@@ -1,33 +1,32 @@
 //! Names, capabilities, written types and the atoms of one token.
 ghost use Rattle.std.specs.Prelude.{◌≡◌, ◌≤◌, drop, IfOk, Ok};
-ghost use Rattle.pc_tree.specs.View.{name_view, type_view, maybe_type_view, expr_view};
+ghost use Rattle.pc_tree.specs.View.{expr_view};
 ghost use Rattle.pc_grammar.specs.Reading as reading;
-ghost use Rattle.pc_expr.specs.Gives.{StandsAtToken, Moves, GivesReading, Numbered};
+ghost use Rattle.pc_expr.specs.Gives.{StandsAtToken, Moves, GivesReading};
 ghost use Rattle.pc_expr.specs.Onto as onto;
 
-use crate::spelled::{Spelled, symbol_at};
 use crate::stop::ParseStop;
 use crate::tokens::{look, take_sign, take_word};
-use pc_base::SharedList;
+use pc_base::{SharedList, ShortBytes};
 use pc_caps::Cap;
 use pc_grammar::cap_of;
 use pc_token::{Sign, Token, TokenKind, Word, is_sign};
 use pc_tree::{Expr, Name, TypeRef, join};
+use std::alloc::Global;
 
 /// A name.
 #[tactic(auto, unfolding(pc_grammar::specs::Reading::name, pc_grammar::specs::Reading::peek, pc_grammar::specs::Reading::take_if))]
-pub fn name(spelled: &Spelled, tokens: &[Token], at: usize) -> Result<(Name, usize), ParseStop>
-    requires stands { StandsAtToken tokens.now at }
-    requires numbered { Numbered spelled.now.symbols.now spelled.now.numbers.now tokens.now }
-    ensures gives { GivesReading (name_view spelled.now.symbols.now) tokens.now result (reading.name (drop at tokens.now)) }
+pub fn name(alloc: Global, tokens: &[Token], at: usize) -> Result<(Name, usize), ParseStop>
+    requires { StandsAtToken tokens.now at }
+    ensures gives { GivesReading (λ m. m) tokens.now result (reading.name (drop at tokens.now)) }
     ensures moves { IfOk result (λ r. Moves tokens.now at r.1) }
 {
     let token = look(tokens, at);
     match &token.kind {
-        TokenKind::Name(_) => {
-            let symbol = symbol_at(spelled, tokens, at, token);
+        TokenKind::Name(text) => {
+            let text = ShortBytes::from_slice(alloc, text.as_slice())?;
             let span = token.span;
-            Ok((Name { symbol, span }, at + 1))
+            Ok((Name { text, span }, at + 1))
         }
         TokenKind::TypeName(_)
         | TokenKind::Word(_)
@@ -41,18 +40,17 @@ pub fn name(spelled: &Spelled, tokens: &[Token], at: usize) -> Result<(Name, usi
 
 /// A type name.
 #[tactic(auto, unfolding(pc_grammar::specs::Reading::type_name, pc_grammar::specs::Reading::peek, pc_grammar::specs::Reading::take_if))]
-pub fn type_name(spelled: &Spelled, tokens: &[Token], at: usize) -> Result<(Name, usize), ParseStop>
-    requires stands { StandsAtToken tokens.now at }
-    requires numbered { Numbered spelled.now.symbols.now spelled.now.numbers.now tokens.now }
-    ensures gives { GivesReading (name_view spelled.now.symbols.now) tokens.now result (reading.type_name (drop at tokens.now)) }
+pub fn type_name(alloc: Global, tokens: &[Token], at: usize) -> Result<(Name, usize), ParseStop>
+    requires { StandsAtToken tokens.now at }
+    ensures gives { GivesReading (λ m. m) tokens.now result (reading.type_name (drop at tokens.now)) }
     ensures moves { IfOk result (λ r. Moves tokens.now at r.1) }
 {
     let token = look(tokens, at);
     match &token.kind {
-        TokenKind::TypeName(_) => {
-            let symbol = symbol_at(spelled, tokens, at, token);
+        TokenKind::TypeName(text) => {
+            let text = ShortBytes::from_slice(alloc, text.as_slice())?;
             let span = token.span;
-            Ok((Name { symbol, span }, at + 1))
+            Ok((Name { text, span }, at + 1))
         }
         TokenKind::Name(_)
         | TokenKind::Word(_)
@@ -80,16 +78,15 @@ pub fn maybe_cap(tokens: &[Token], at: usize) -> (Option<Cap>, usize)
 /// A type, as in locals, fields and parameters: without a `^`.
 #[tactic(auto, unfolding(pc_grammar::specs::Reading::written_type))]
 pub fn written_type(
-    spelled: &Spelled,
+    alloc: Global,
     tokens: &[Token],
     at: usize,
 ) -> Result<(TypeRef, usize), ParseStop>
-    requires stands { StandsAtToken tokens.now at }
-    requires numbered { Numbered spelled.now.symbols.now spelled.now.numbers.now tokens.now }
-    ensures gives { GivesReading (type_view spelled.now.symbols.now) tokens.now result (reading.written_type (drop at tokens.now)) }
+    requires { StandsAtToken tokens.now at }
+    ensures gives { GivesReading (λ m. m) tokens.now result (reading.written_type (drop at tokens.now)) }
     ensures moves { IfOk result (λ r. Moves tokens.now at r.1) }
 {
-    let (name, to) = type_name(spelled, tokens, at)?;
+    let (name, to) = type_name(alloc, tokens, at)?;
     let (cap, to) = maybe_cap(tokens, to);
     let hat = false;
     Ok((TypeRef { name, cap, hat }, to))
@@ -98,77 +95,68 @@ pub fn written_type(
 /// A type after a `:`, if one is written.
 #[tactic(auto, unfolding(pc_grammar::specs::Reading::maybe_type, pc_grammar::specs::Reading::peek))]
 pub fn maybe_type(
-    spelled: &Spelled,
+    alloc: Global,
     tokens: &[Token],
     at: usize,
 ) -> Result<(Option<TypeRef>, usize), ParseStop>
-    requires stands { StandsAtToken tokens.now at }
-    requires numbered { Numbered spelled.now.symbols.now spelled.now.numbers.now tokens.now }
-    ensures gives { GivesReading (maybe_type_view spelled.now.symbols.now) tokens.now result (reading.maybe_type (drop at tokens.now)) }
+    requires { StandsAtToken tokens.now at }
+    ensures gives { GivesReading (λ m. m) tokens.now result (reading.maybe_type (drop at tokens.now)) }
     ensures moves { IfOk result (λ r. (at ≤ r.1) × StandsAtToken tokens.now r.1) }
 {
     if !is_sign(look(tokens, at), Sign::Colon) {
         return Ok((None, at));
     }
     let (_, begin) = take_sign(tokens, at, Sign::Colon)?;
-    let (ty, to) = written_type(spelled, tokens, begin)?;
+    let (ty, to) = written_type(alloc, tokens, begin)?;
     Ok((Some(ty), to))
 }
 
 /// A name as an expression.
 #[tactic(auto, using(pc_tree::proofs::Views::view_name), unfolding(crate::specs::Onto::named))]
-pub fn named(spelled: &Spelled, tokens: &[Token], at: usize) -> Result<(Expr, usize), ParseStop>
-    requires stands { StandsAtToken tokens.now at }
-    requires numbered { Numbered spelled.now.symbols.now spelled.now.numbers.now tokens.now }
-    ensures gives { GivesReading (expr_view spelled.now.symbols.now) tokens.now result (onto.named (drop at tokens.now)) }
+pub fn named(alloc: Global, tokens: &[Token], at: usize) -> Result<(Expr, usize), ParseStop>
+    requires { StandsAtToken tokens.now at }
+    ensures gives { GivesReading expr_view tokens.now result (onto.named (drop at tokens.now)) }
     ensures moves { IfOk result (λ r. Moves tokens.now at r.1) }
 {
-    let (name, to) = name(spelled, tokens, at)?;
+    let (name, to) = name(alloc, tokens, at)?;
     Ok((Expr::Name(name), to))
 }
 
 /// A type name as an expression.
 #[tactic(auto, using(pc_tree::proofs::Views::view_type_name), unfolding(crate::specs::Onto::type_named))]
-pub fn type_named(
-    spelled: &Spelled,
-    tokens: &[Token],
-    at: usize,
-) -> Result<(Expr, usize), ParseStop>
-    requires stands { StandsAtToken tokens.now at }
-    requires numbered { Numbered spelled.now.symbols.now spelled.now.numbers.now tokens.now }
-    ensures gives { GivesReading (expr_view spelled.now.symbols.now) tokens.now result (onto.type_named (drop at tokens.now)) }
+pub fn type_named(alloc: Global, tokens: &[Token], at: usize) -> Result<(Expr, usize), ParseStop>
+    requires { StandsAtToken tokens.now at }
+    ensures gives { GivesReading expr_view tokens.now result (onto.type_named (drop at tokens.now)) }
     ensures moves { IfOk result (λ r. Moves tokens.now at r.1) }
 {
-    let (name, to) = type_name(spelled, tokens, at)?;
+    let (name, to) = type_name(alloc, tokens, at)?;
     Ok((Expr::TypeName(name), to))
 }
 
 /// `consume` and a name.
 #[tactic(auto, using(pc_tree::proofs::Views::view_consume), unfolding(pc_grammar::specs::Reading::consume))]
-pub fn consume(spelled: &Spelled, tokens: &[Token], at: usize) -> Result<(Expr, usize), ParseStop>
-    requires stands { StandsAtToken tokens.now at }
-    requires numbered { Numbered spelled.now.symbols.now spelled.now.numbers.now tokens.now }
-    ensures gives { GivesReading (expr_view spelled.now.symbols.now) tokens.now result (reading.consume (drop at tokens.now)) }
+pub fn consume(alloc: Global, tokens: &[Token], at: usize) -> Result<(Expr, usize), ParseStop>
+    requires { StandsAtToken tokens.now at }
+    ensures gives { GivesReading expr_view tokens.now result (reading.consume (drop at tokens.now)) }
     ensures moves { IfOk result (λ r. Moves tokens.now at r.1) }
 {
     let (opener, begin) = take_word(tokens, at, Word::ConsumeWord)?;
-    let (name, to) = name(spelled, tokens, begin)?;
+    let (name, to) = name(alloc, tokens, begin)?;
     let span = join(opener.span, name.span);
     Ok((Expr::Consume { name, span }, to))
 }
 
 /// A text literal.
 #[tactic(auto, using(pc_tree::proofs::Views::view_text), unfolding(crate::specs::Onto::text_at, pc_grammar::specs::Reading::peek, pc_grammar::specs::Reading::take_if))]
-pub fn text(spelled: &Spelled, tokens: &[Token], at: usize) -> Result<(Expr, usize), ParseStop>
-    requires stands { StandsAtToken tokens.now at }
-    requires numbered { Numbered spelled.now.symbols.now spelled.now.numbers.now tokens.now }
-    ensures gives { GivesReading (expr_view spelled.now.symbols.now) tokens.now result (onto.text_at (drop at tokens.now)) }
+pub fn text(alloc: Global, tokens: &[Token], at: usize) -> Result<(Expr, usize), ParseStop>
+    requires { StandsAtToken tokens.now at }
+    ensures gives { GivesReading expr_view tokens.now result (onto.text_at (drop at tokens.now)) }
     ensures moves { IfOk result (λ r. Moves tokens.now at r.1) }
 {
     let token = look(tokens, at);
     match &token.kind {
         TokenKind::Text(bytes) => {
-            let bytes = SharedList::from_slice(spelled.alloc, bytes.as_slice())?;
+            let bytes = SharedList::from_slice(alloc, bytes.as_slice())?;
             let span = token.span;
             Ok((Expr::Text { bytes, span }, at + 1))
         }

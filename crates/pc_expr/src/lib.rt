@@ -15,10 +15,8 @@ pub mod parsers;
 mod parsing;
 mod rules;
 mod spans;
-mod spelled;
 mod stop;
 mod tokens;
 
 pub use fault::ParseFault;
 pub use parsing::{LEVELS, expr, infix, seq};
-pub use spelled::{Spelled, key_of, number_tokens};

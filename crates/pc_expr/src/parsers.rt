@@ -4,6 +4,5 @@ pub use crate::asking::local_word;
 pub use crate::atoms::{maybe_cap, name, type_name, written_type};
 pub use crate::parsing::fault;
 pub use crate::rules::{infix, seq};
-pub use crate::spelled::Spelled;
 pub use crate::stop::ParseStop;
 pub use crate::tokens::{after_comma, look, take_sign, take_word};

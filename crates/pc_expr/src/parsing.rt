@@ -3,15 +3,15 @@ ghost use Rattle.std.specs.Prelude.{◌<◌, ◌≤◌, ◌-◌, IfOk, IfErr, le
 ghost use Rattle.pc_tree.specs.View.{expr_view, seq_view};
 ghost use Rattle.pc_tree.specs.Depths as levels;
 ghost use Rattle.pc_grammar.specs.Spells.{Spells, SpellsInfix, SpellsSeq, level_limit};
-ghost use Rattle.pc_expr.specs.Gives.{EndsWithEnd, Numbered};
+ghost use Rattle.pc_expr.specs.Gives.{EndsWithEnd};
 ghost use Rattle.pc_expr.specs.Answers.{Places, ReadsTo, RefusesTree, IsOnly, StopsAtToken, NamesByte};
 
 use crate::fault::ParseFault;
 use crate::rules;
-use crate::spelled::Spelled;
 use crate::stop::ParseStop;
 use pc_token::Token;
 use pc_tree::{Expr, Seq};
+use std::alloc::Global;
 
 /// How many nested levels may be opened.
 pub const LEVELS: u16 = 200;
@@ -41,23 +41,22 @@ pub fn fault(tokens: &[Token], stop: ParseStop) -> ParseFault
 /// continues as long as some sequence, of any depth, begins with the tokens so far. `Unexpected` names the first token
 /// with which none begins, if those before it spell none; `TooDeep` the first token that opens level 201.
 pub fn seq(
-    spelled: &Spelled,
+    alloc: Global,
     tokens: &[Token],
     at: usize,
     level: u16,
 ) -> Result<(Seq, usize), ParseFault>
     requires ends { EndsWithEnd tokens.now }
-    requires numbered { Numbered spelled.now.symbols.now spelled.now.numbers.now tokens.now }
     requires within { at < length tokens.now }
     requires level { level ≤ level_limit }
     // The tree that the tokens spell up to the place, at which nothing continues it.
-    ensures read { IfOk result (λ r. ReadsTo SpellsSeq levels.seq_depth (level_limit - level) tokens.now at (seq_view spelled.now.symbols.now r.0) r.1) }
+    ensures read { IfOk result (λ r. ReadsTo SpellsSeq levels.seq_depth (level_limit - level) tokens.now at (seq_view r.0) r.1) }
     // Why there is none, or memory ran out.
     ensures refused { IfErr result (RefusesTree SpellsSeq levels.seq_depth (level_limit - level) tokens.now at) }
     // Whatever answer holds for the tokens is the result, unless memory ran out.
-    ensures exact { IsOnly SpellsSeq levels.seq_depth (level_limit - level) (seq_view spelled.now.symbols.now) tokens.now at result }
+    ensures exact { IsOnly SpellsSeq levels.seq_depth (level_limit - level) seq_view tokens.now at result }
 {
-    match rules::seq(spelled, tokens, at, LEVELS - level) {
+    match rules::seq(alloc, tokens, at, LEVELS - level) {
         Ok(read) => Ok(read),
         Err(stop) => Err(fault(tokens, stop)),
     }
@@ -65,23 +64,22 @@ pub fn seq(
 
 /// The expression that the tokens spell from a place on, as with `seq`.
 pub fn expr(
-    spelled: &Spelled,
+    alloc: Global,
     tokens: &[Token],
     at: usize,
     level: u16,
 ) -> Result<(Expr, usize), ParseFault>
     requires ends { EndsWithEnd tokens.now }
-    requires numbered { Numbered spelled.now.symbols.now spelled.now.numbers.now tokens.now }
     requires within { at < length tokens.now }
     requires level { level ≤ level_limit }
     // The tree that the tokens spell up to the place, at which nothing continues it.
-    ensures read { IfOk result (λ r. ReadsTo Spells levels.depth (level_limit - level) tokens.now at (expr_view spelled.now.symbols.now r.0) r.1) }
+    ensures read { IfOk result (λ r. ReadsTo Spells levels.depth (level_limit - level) tokens.now at (expr_view r.0) r.1) }
     // Why there is none, or memory ran out.
     ensures refused { IfErr result (RefusesTree Spells levels.depth (level_limit - level) tokens.now at) }
     // Whatever answer holds for the tokens is the result, unless memory ran out.
-    ensures exact { IsOnly Spells levels.depth (level_limit - level) (expr_view spelled.now.symbols.now) tokens.now at result }
+    ensures exact { IsOnly Spells levels.depth (level_limit - level) expr_view tokens.now at result }
 {
-    match rules::expr(spelled, tokens, at, LEVELS - level) {
+    match rules::expr(alloc, tokens, at, LEVELS - level) {
         Ok(read) => Ok(read),
         Err(stop) => Err(fault(tokens, stop)),
     }
@@ -89,23 +87,22 @@ pub fn expr(
 
 /// The expression without `=` that the tokens spell from a place on, as with `seq`.
 pub fn infix(
-    spelled: &Spelled,
+    alloc: Global,
     tokens: &[Token],
     at: usize,
     level: u16,
 ) -> Result<(Expr, usize), ParseFault>
     requires ends { EndsWithEnd tokens.now }
-    requires numbered { Numbered spelled.now.symbols.now spelled.now.numbers.now tokens.now }
     requires within { at < length tokens.now }
     requires level { level ≤ level_limit }
     // The tree that the tokens spell up to the place, at which nothing continues it.
-    ensures read { IfOk result (λ r. ReadsTo SpellsInfix levels.depth (level_limit - level) tokens.now at (expr_view spelled.now.symbols.now r.0) r.1) }
+    ensures read { IfOk result (λ r. ReadsTo SpellsInfix levels.depth (level_limit - level) tokens.now at (expr_view r.0) r.1) }
     // Why there is none, or memory ran out.
     ensures refused { IfErr result (RefusesTree SpellsInfix levels.depth (level_limit - level) tokens.now at) }
     // Whatever answer holds for the tokens is the result, unless memory ran out.
-    ensures exact { IsOnly SpellsInfix levels.depth (level_limit - level) (expr_view spelled.now.symbols.now) tokens.now at result }
+    ensures exact { IsOnly SpellsInfix levels.depth (level_limit - level) expr_view tokens.now at result }
 {
-    match rules::infix(spelled, tokens, at, LEVELS - level) {
+    match rules::infix(alloc, tokens, at, LEVELS - level) {
         Ok(read) => Ok(read),
         Err(stop) => Err(fault(tokens, stop)),
     }

@@ -7,14 +7,13 @@ ghost use Rattle.pc_tree.specs.Tree as t;
 ghost use Rattle.pc_tree.specs.View.{expr_view, item_view, suffix_view, arm_view, seq_view, exprs_view, other_view};
 ghost use Rattle.pc_grammar.specs.Spells as spells;
 ghost use Rattle.pc_grammar.specs.Reading as reading;
-ghost use Rattle.pc_expr.specs.Gives.{StandsAtToken, Moves, GivesReading, Numbered};
+ghost use Rattle.pc_expr.specs.Gives.{StandsAtToken, Moves, GivesReading};
 ghost use Rattle.pc_expr.specs.Onto as onto;
 ghost use Rattle.pc_expr.specs.declared.stop.ParseStop.TheVariants.{Memory};
 
 use crate::asking::{assigns, local_word};
 use crate::atoms::{consume, maybe_cap, maybe_type, name, named, text, type_named};
 use crate::spans::{chain_span, first_arm, items_span, terms_span};
-use crate::spelled::Spelled;
 use crate::stop::ParseStop;
 use crate::tokens::{
     after_comma, after_op, at_elseif, at_suffix, look, next_item, take_sign, take_word,
@@ -23,43 +22,37 @@ use pc_base::{List, Span};
 use pc_grammar::op_of;
 use pc_token::{Sign, Token, TokenKind, Word, is_sign, is_word};
 use pc_tree::{Arm, Expr, Item, Op, Seq, Suffix, join, span_of};
+use std::alloc::Global;
 
 /// Item {Next Item}, if `left` levels may still be opened.
 #[cycle(rules)]
 #[tactic(auto, using(pc_tree::proofs::Views::view_seq, crate::proofs::Parts::seq_by_items), unfolding(pc_grammar::specs::Reading::seq_of))]
-pub fn seq(
-    spelled: &Spelled,
-    tokens: &[Token],
-    at: usize,
-    left: u16,
-) -> Result<(Seq, usize), ParseStop>
-    requires stands { StandsAtToken tokens.now at }
-    requires numbered { Numbered spelled.now.symbols.now spelled.now.numbers.now tokens.now }
-    ensures gives { GivesReading (seq_view spelled.now.symbols.now) tokens.now result (reading.seq_in left (reading.inner left) (drop at tokens.now)) }
+pub fn seq(alloc: Global, tokens: &[Token], at: usize, left: u16) -> Result<(Seq, usize), ParseStop>
+    requires { StandsAtToken tokens.now at }
+    ensures gives { GivesReading seq_view tokens.now result (reading.seq_in left (reading.inner left) (drop at tokens.now)) }
     ensures moves { IfOk result (λ r. Moves tokens.now at r.1) }
 {
-    let (items, to) = items(spelled, tokens, at, left)?;
-    let span = items_span(spelled.symbols, items.as_slice());
+    let (items, to) = items(alloc, tokens, at, left)?;
+    let span = items_span(items.as_slice());
     Ok((Seq { items, span }, to))
 }
 
 /// The items of a sequence.
 #[cycle(rules)]
 fn items(
-    spelled: &Spelled,
+    alloc: Global,
     tokens: &[Token],
     at: usize,
     left: u16,
 ) -> Result<(List<Item>, usize), ParseStop>
-    requires stands { StandsAtToken tokens.now at }
-    requires numbered { Numbered spelled.now.symbols.now spelled.now.numbers.now tokens.now }
-    ensures gives { GivesReading (map (item_view spelled.now.symbols.now)) tokens.now result (reading.and_then (reading.item (reading.expr_in left (reading.inner left)) (drop at tokens.now)) (λ x. onto.more_items left (reading.inner left) (x ∷ []))) }
+    requires { StandsAtToken tokens.now at }
+    ensures gives { GivesReading (map item_view) tokens.now result (reading.and_then (reading.item (reading.expr_in left (reading.inner left)) (drop at tokens.now)) (λ x. onto.more_items left (reading.inner left) (x ∷ []))) }
     ensures moves { IfOk result (λ r. Moves tokens.now at r.1) }
 {
-    let mut items = List::new(spelled.alloc);
+    let mut items = List::new(alloc);
     let mut to = at;
     'more: loop {
-        let (one, after) = item(spelled, tokens, to, left)?;
+        let (one, after) = item(alloc, tokens, to, left)?;
         items.push_within(1, one)?;
         match next_item(tokens, after) {
             Some(next) => to = next,
@@ -71,25 +64,19 @@ fn items(
 /// ("var" | "let") Name [":" Type] "=" Expr  |  Expr
 #[cycle(rules)]
 #[tactic(auto, using(pc_tree::proofs::Views::view_plain), unfolding(pc_grammar::specs::Reading::item, pc_grammar::specs::Reading::peek))]
-fn item(
-    spelled: &Spelled,
-    tokens: &[Token],
-    at: usize,
-    left: u16,
-) -> Result<(Item, usize), ParseStop>
-    requires stands { StandsAtToken tokens.now at }
-    requires numbered { Numbered spelled.now.symbols.now spelled.now.numbers.now tokens.now }
-    ensures gives { GivesReading (item_view spelled.now.symbols.now) tokens.now result (reading.item (reading.expr_in left (reading.inner left)) (drop at tokens.now)) }
+fn item(alloc: Global, tokens: &[Token], at: usize, left: u16) -> Result<(Item, usize), ParseStop>
+    requires { StandsAtToken tokens.now at }
+    ensures gives { GivesReading item_view tokens.now result (reading.item (reading.expr_in left (reading.inner left)) (drop at tokens.now)) }
     ensures moves { IfOk result (λ r. Moves tokens.now at r.1) }
 {
     let token = look(tokens, at);
     if is_word(token, Word::LetWord) {
-        return local(spelled, tokens, at, left, true);
+        return local(alloc, tokens, at, left, true);
     }
     if is_word(token, Word::VarWord) {
-        return local(spelled, tokens, at, left, false);
+        return local(alloc, tokens, at, left, false);
     }
-    let (e, to) = expr(spelled, tokens, at, left)?;
+    let (e, to) = expr(alloc, tokens, at, left)?;
     Ok((Item::Plain(e), to))
 }
 
@@ -97,23 +84,22 @@ fn item(
 #[cycle(rules)]
 #[tactic(auto, using(pc_tree::proofs::Views::view_local), unfolding(pc_grammar::specs::Reading::local))]
 fn local(
-    spelled: &Spelled,
+    alloc: Global,
     tokens: &[Token],
     at: usize,
     left: u16,
     fixed: bool,
 ) -> Result<(Item, usize), ParseStop>
-    requires stands { StandsAtToken tokens.now at }
-    requires numbered { Numbered spelled.now.symbols.now spelled.now.numbers.now tokens.now }
-    ensures gives { GivesReading (item_view spelled.now.symbols.now) tokens.now result (reading.local fixed (reading.expr_in left (reading.inner left)) (drop at tokens.now)) }
+    requires { StandsAtToken tokens.now at }
+    ensures gives { GivesReading item_view tokens.now result (reading.local fixed (reading.expr_in left (reading.inner left)) (drop at tokens.now)) }
     ensures moves { IfOk result (λ r. Moves tokens.now at r.1) }
 {
     let (opener, begin) = take_word(tokens, at, local_word(fixed))?;
-    let (name, to) = name(spelled, tokens, begin)?;
-    let (ty, to) = maybe_type(spelled, tokens, to)?;
+    let (name, to) = name(alloc, tokens, begin)?;
+    let (ty, to) = maybe_type(alloc, tokens, to)?;
     let (_, begin) = take_sign(tokens, to, Sign::Assign)?;
-    let (value, to) = expr(spelled, tokens, begin, left)?;
-    let span = join(opener.span, span_of(spelled.symbols, &value));
+    let (value, to) = expr(alloc, tokens, begin, left)?;
+    let span = join(opener.span, span_of(&value));
     Ok((
         Item::Local {
             fixed,
@@ -130,20 +116,19 @@ fn local(
 #[cycle(rules)]
 #[tactic(auto, unfolding(pc_grammar::specs::Reading::expr_in, pc_grammar::specs::Reading::expr_with, pc_grammar::specs::Reading::peek))]
 pub fn expr(
-    spelled: &Spelled,
+    alloc: Global,
     tokens: &[Token],
     at: usize,
     left: u16,
 ) -> Result<(Expr, usize), ParseStop>
-    requires stands { StandsAtToken tokens.now at }
-    requires numbered { Numbered spelled.now.symbols.now spelled.now.numbers.now tokens.now }
-    ensures gives { GivesReading (expr_view spelled.now.symbols.now) tokens.now result (reading.expr_in left (reading.inner left) (drop at tokens.now)) }
+    requires { StandsAtToken tokens.now at }
+    ensures gives { GivesReading expr_view tokens.now result (reading.expr_in left (reading.inner left) (drop at tokens.now)) }
     ensures moves { IfOk result (λ r. Moves tokens.now at r.1) }
 {
-    let (e, to) = infix(spelled, tokens, at, left)?;
-    if assigns(spelled.symbols, look(tokens, to), &e) {
-        match becomes(spelled, tokens, to, left) {
-            Ok((right, to)) => Ok((assigned(spelled, e, right)?, to)),
+    let (e, to) = infix(alloc, tokens, at, left)?;
+    if assigns(look(tokens, to), &e) {
+        match becomes(alloc, tokens, to, left) {
+            Ok((right, to)) => Ok((assigned(alloc, e, right)?, to)),
             Err(stop) => {
                 drop(e);
                 Err(stop)
@@ -158,34 +143,30 @@ pub fn expr(
 #[cycle(rules)]
 #[tactic(auto, using(pc_grammar::proofs::Levels::no_deeper, pc_grammar::proofs::Levels::one_deeper, pc_grammar::proofs::Levels::inner_expr))]
 fn becomes(
-    spelled: &Spelled,
+    alloc: Global,
     tokens: &[Token],
     at: usize,
     left: u16,
 ) -> Result<(Expr, usize), ParseStop>
-    requires stands { StandsAtToken tokens.now at }
-    requires numbered { Numbered spelled.now.symbols.now spelled.now.numbers.now tokens.now }
-    ensures gives { GivesReading (expr_view spelled.now.symbols.now) tokens.now result (reading.deeper left (λ ts. reading.and_then (reading.take_if (spec.is_sign Assign) ts) (λ _. (reading.inner left).expr)) (drop at tokens.now)) }
+    requires { StandsAtToken tokens.now at }
+    ensures gives { GivesReading expr_view tokens.now result (reading.deeper left (λ ts. reading.and_then (reading.take_if (spec.is_sign Assign) ts) (λ _. (reading.inner left).expr)) (drop at tokens.now)) }
     ensures moves { IfOk result (λ r. Moves tokens.now at r.1) }
 {
     if left == 0 {
         return Err(ParseStop::TooDeep(at));
     }
     let (_, begin) = take_sign(tokens, at, Sign::Assign)?;
-    expr(spelled, tokens, begin, left - 1)
+    expr(alloc, tokens, begin, left - 1)
 }
 
 /// The assignment of an expression.
-fn assigned(spelled: &Spelled, place: Expr, right: Expr) -> Result<Expr, ParseStop>
-    ensures ok { IfOk result (λ e. expr_view spelled.now.symbols.now e ≡ t.assign (expr_view spelled.now.symbols.now place) (expr_view spelled.now.symbols.now right) (spells.span_from_to (t.span_of (expr_view spelled.now.symbols.now place)) (t.span_of (expr_view spelled.now.symbols.now right)))) }
+fn assigned(alloc: Global, place: Expr, right: Expr) -> Result<Expr, ParseStop>
+    ensures ok { IfOk result (λ e. expr_view e ≡ t.assign (expr_view place) (expr_view right) (spells.span_from_to (t.span_of (expr_view place)) (t.span_of (expr_view right)))) }
     ensures err { IfErr result (λ e. e ≡ Memory) }
 {
-    let span = join(
-        span_of(spelled.symbols, &place),
-        span_of(spelled.symbols, &right),
-    );
-    match Box::new(spelled.alloc, place) {
-        Ok(place) => assign(spelled, place, right, span),
+    let span = join(span_of(&place), span_of(&right));
+    match Box::new(alloc, place) {
+        Ok(place) => assign(alloc, place, right, span),
         Err(failed) => {
             drop(right);
             Err(ParseStop::from(failed))
@@ -195,11 +176,11 @@ fn assigned(spelled: &Spelled, place: Expr, right: Expr) -> Result<Expr, ParseSt
 
 /// The assignment of an expression, with its spans.
 #[tactic(auto, using(pc_tree::proofs::Views::view_assign))]
-fn assign(spelled: &Spelled, left: Box<Expr>, right: Expr, span: Span) -> Result<Expr, ParseStop>
-    ensures ok { IfOk result (λ e. expr_view spelled.now.symbols.now e ≡ t.assign (expr_view spelled.now.symbols.now left.value) (expr_view spelled.now.symbols.now right) span) }
+fn assign(alloc: Global, left: Box<Expr>, right: Expr, span: Span) -> Result<Expr, ParseStop>
+    ensures ok { IfOk result (λ e. expr_view e ≡ t.assign (expr_view left.value) (expr_view right) span) }
     ensures err { IfErr result (λ e. e ≡ Memory) }
 {
-    match Box::new(spelled.alloc, right) {
+    match Box::new(alloc, right) {
         Ok(right) => Ok(Expr::Assign { left, right, span }),
         Err(failed) => {
             drop(left);
@@ -212,19 +193,18 @@ fn assign(spelled: &Spelled, left: Box<Expr>, right: Expr, span: Span) -> Result
 #[cycle(rules)]
 #[tactic(auto, using(crate::proofs::Parts::infix_by_parts), unfolding(crate::specs::Onto::infix_parts, pc_grammar::specs::Reading::peek))]
 pub fn infix(
-    spelled: &Spelled,
+    alloc: Global,
     tokens: &[Token],
     at: usize,
     left: u16,
 ) -> Result<(Expr, usize), ParseStop>
-    requires stands { StandsAtToken tokens.now at }
-    requires numbered { Numbered spelled.now.symbols.now spelled.now.numbers.now tokens.now }
-    ensures gives { GivesReading (expr_view spelled.now.symbols.now) tokens.now result (reading.infix_in left (reading.inner left) (drop at tokens.now)) }
+    requires { StandsAtToken tokens.now at }
+    ensures gives { GivesReading expr_view tokens.now result (reading.infix_in left (reading.inner left) (drop at tokens.now)) }
     ensures moves { IfOk result (λ r. Moves tokens.now at r.1) }
 {
-    let (first, to) = term(spelled, tokens, at, left)?;
+    let (first, to) = term(alloc, tokens, at, left)?;
     match op_of(look(tokens, to)) {
-        Some(op) => operators(spelled, tokens, to, left, first, op),
+        Some(op) => operators(alloc, tokens, to, left, first, op),
         None => Ok((first, to)),
     }
 }
@@ -233,44 +213,42 @@ pub fn infix(
 #[cycle(rules)]
 #[tactic(auto, using(pc_tree::proofs::Views::view_infix), unfolding(crate::specs::Onto::chain_terms, pc_grammar::specs::Reading::infix_of))]
 fn operators(
-    spelled: &Spelled,
+    alloc: Global,
     tokens: &[Token],
     at: usize,
     left: u16,
     first: Expr,
     op: Op,
 ) -> Result<(Expr, usize), ParseStop>
-    requires stands { StandsAtToken tokens.now at }
-    requires numbered { Numbered spelled.now.symbols.now spelled.now.numbers.now tokens.now }
-    ensures gives { GivesReading (expr_view spelled.now.symbols.now) tokens.now result (onto.chain_terms left (reading.inner left) op (expr_view spelled.now.symbols.now first) (drop at tokens.now)) }
+    requires { StandsAtToken tokens.now at }
+    ensures gives { GivesReading expr_view tokens.now result (onto.chain_terms left (reading.inner left) op (expr_view first) (drop at tokens.now)) }
     ensures moves { IfOk result (λ r. (at ≤ r.1) × StandsAtToken tokens.now r.1) }
 {
-    let mut terms = List::new(spelled.alloc);
+    let mut terms = List::new(alloc);
     terms.push_within(2, first)?;
-    let (terms, to) = more_terms(spelled, tokens, at, left, op, terms)?;
-    let span = terms_span(spelled.symbols, terms.as_slice());
+    let (terms, to) = more_terms(alloc, tokens, at, left, op, terms)?;
+    let span = terms_span(terms.as_slice());
     Ok((Expr::Infix { op, terms, span }, to))
 }
 
 /// {Op Term}, after some terms.
 #[cycle(rules)]
 fn more_terms(
-    spelled: &Spelled,
+    alloc: Global,
     tokens: &[Token],
     at: usize,
     left: u16,
     op: Op,
     so_far: List<Expr>,
 ) -> Result<(List<Expr>, usize), ParseStop>
-    requires stands { StandsAtToken tokens.now at }
-    requires numbered { Numbered spelled.now.symbols.now spelled.now.numbers.now tokens.now }
-    ensures gives { GivesReading (map (expr_view spelled.now.symbols.now)) tokens.now result (onto.more_terms left (reading.inner left) op (map (expr_view spelled.now.symbols.now) so_far) (drop at tokens.now)) }
+    requires { StandsAtToken tokens.now at }
+    ensures gives { GivesReading (map expr_view) tokens.now result (onto.more_terms left (reading.inner left) op (map expr_view so_far) (drop at tokens.now)) }
     ensures moves { IfOk result (λ r. (at ≤ r.1) × StandsAtToken tokens.now r.1) }
 {
     let mut terms = so_far;
     let mut to = at;
     'more: while let Some(next) = after_op(tokens, to, op) {
-        let (one, after) = term(spelled, tokens, next, left)?;
+        let (one, after) = term(alloc, tokens, next, left)?;
         terms.push(one)?;
         to = after;
     }
@@ -280,24 +258,18 @@ fn more_terms(
 /// "not" Term  |  "consume" Name  |  Postfix
 #[cycle(rules)]
 #[tactic(auto, unfolding(pc_grammar::specs::Reading::term, pc_grammar::specs::Reading::peek))]
-fn term(
-    spelled: &Spelled,
-    tokens: &[Token],
-    at: usize,
-    left: u16,
-) -> Result<(Expr, usize), ParseStop>
-    requires stands { StandsAtToken tokens.now at }
-    requires numbered { Numbered spelled.now.symbols.now spelled.now.numbers.now tokens.now }
-    ensures gives { GivesReading (expr_view spelled.now.symbols.now) tokens.now result (reading.term left (reading.inner left) (drop at tokens.now)) }
+fn term(alloc: Global, tokens: &[Token], at: usize, left: u16) -> Result<(Expr, usize), ParseStop>
+    requires { StandsAtToken tokens.now at }
+    ensures gives { GivesReading expr_view tokens.now result (reading.term left (reading.inner left) (drop at tokens.now)) }
     ensures moves { IfOk result (λ r. Moves tokens.now at r.1) }
 {
     let token = look(tokens, at);
     if is_word(token, Word::NotWord) {
-        negation(spelled, tokens, at, left)
+        negation(alloc, tokens, at, left)
     } else if is_word(token, Word::ConsumeWord) {
-        consume(spelled, tokens, at)
+        consume(alloc, tokens, at)
     } else {
-        postfix(spelled, tokens, at, left)
+        postfix(alloc, tokens, at, left)
     }
 }
 
@@ -305,23 +277,22 @@ fn term(
 #[cycle(rules)]
 #[tactic(auto, using(pc_tree::proofs::Views::view_not, pc_grammar::proofs::Levels::no_deeper, pc_grammar::proofs::Levels::one_deeper, pc_grammar::proofs::Levels::inner_term), unfolding(pc_grammar::specs::Reading::negation))]
 fn negation(
-    spelled: &Spelled,
+    alloc: Global,
     tokens: &[Token],
     at: usize,
     left: u16,
 ) -> Result<(Expr, usize), ParseStop>
-    requires stands { StandsAtToken tokens.now at }
-    requires numbered { Numbered spelled.now.symbols.now spelled.now.numbers.now tokens.now }
-    ensures gives { GivesReading (expr_view spelled.now.symbols.now) tokens.now result (reading.negation left (reading.inner left).term (drop at tokens.now)) }
+    requires { StandsAtToken tokens.now at }
+    ensures gives { GivesReading expr_view tokens.now result (reading.negation left (reading.inner left).term (drop at tokens.now)) }
     ensures moves { IfOk result (λ r. Moves tokens.now at r.1) }
 {
     if left == 0 {
         return Err(ParseStop::TooDeep(at));
     }
     let (opener, begin) = take_word(tokens, at, Word::NotWord)?;
-    let (inner, to) = term(spelled, tokens, begin, left - 1)?;
-    let span = join(opener.span, span_of(spelled.symbols, &inner));
-    let inner = Box::new(spelled.alloc, inner)?;
+    let (inner, to) = term(alloc, tokens, begin, left - 1)?;
+    let span = join(opener.span, span_of(&inner));
+    let inner = Box::new(alloc, inner)?;
     Ok((Expr::Not { inner, span }, to))
 }
 
@@ -329,19 +300,18 @@ fn negation(
 #[cycle(rules)]
 #[tactic(auto, using(crate::proofs::Parts::postfix_by_parts), unfolding(crate::specs::Onto::postfix_parts, pc_grammar::specs::Reading::chain_of))]
 fn postfix(
-    spelled: &Spelled,
+    alloc: Global,
     tokens: &[Token],
     at: usize,
     left: u16,
 ) -> Result<(Expr, usize), ParseStop>
-    requires stands { StandsAtToken tokens.now at }
-    requires numbered { Numbered spelled.now.symbols.now spelled.now.numbers.now tokens.now }
-    ensures gives { GivesReading (expr_view spelled.now.symbols.now) tokens.now result (reading.postfix left (reading.inner left) (drop at tokens.now)) }
+    requires { StandsAtToken tokens.now at }
+    ensures gives { GivesReading expr_view tokens.now result (reading.postfix left (reading.inner left) (drop at tokens.now)) }
     ensures moves { IfOk result (λ r. Moves tokens.now at r.1) }
 {
-    let (head, to) = atom(spelled, tokens, at, left)?;
-    match more_suffixes(spelled, tokens, to, left, List::new(spelled.alloc)) {
-        Ok((suffixes, to)) => Ok((chain(spelled, head, suffixes)?, to)),
+    let (head, to) = atom(alloc, tokens, at, left)?;
+    match more_suffixes(alloc, tokens, to, left, List::new(alloc)) {
+        Ok((suffixes, to)) => Ok((chain(alloc, head, suffixes)?, to)),
         Err(stop) => {
             drop(head);
             Err(stop)
@@ -351,15 +321,15 @@ fn postfix(
 
 /// An atom with its suffixes; the atom alone if there are none.
 #[tactic(auto, using(pc_tree::proofs::Views::view_chain), unfolding(pc_grammar::specs::Reading::chain_of))]
-fn chain(spelled: &Spelled, head: Expr, suffixes: List<Suffix>) -> Result<Expr, ParseStop>
-    ensures ok { IfOk result (λ e. expr_view spelled.now.symbols.now e ≡ reading.chain_of (expr_view spelled.now.symbols.now head) (map (suffix_view spelled.now.symbols.now) suffixes)) }
+fn chain(alloc: Global, head: Expr, suffixes: List<Suffix>) -> Result<Expr, ParseStop>
+    ensures ok { IfOk result (λ e. expr_view e ≡ reading.chain_of (expr_view head) (map suffix_view suffixes)) }
     ensures err { IfErr result (λ e. e ≡ Memory) }
 {
     if suffixes.is_empty() {
         return Ok(head);
     }
-    let span = chain_span(spelled.symbols, &head, suffixes.as_slice());
-    let head = Box::new(spelled.alloc, head)?;
+    let span = chain_span(&head, suffixes.as_slice());
+    let head = Box::new(alloc, head)?;
     Ok(Expr::Chain {
         head,
         suffixes,
@@ -370,22 +340,21 @@ fn chain(spelled: &Spelled, head: Expr, suffixes: List<Suffix>) -> Result<Expr, 
 /// {"." Name | "(" [Expr {"," Expr}] ")"}, after some suffixes.
 #[cycle(rules)]
 fn more_suffixes(
-    spelled: &Spelled,
+    alloc: Global,
     tokens: &[Token],
     at: usize,
     left: u16,
     so_far: List<Suffix>,
 ) -> Result<(List<Suffix>, usize), ParseStop>
-    requires stands { StandsAtToken tokens.now at }
-    requires numbered { Numbered spelled.now.symbols.now spelled.now.numbers.now tokens.now }
-    ensures gives { GivesReading (map (suffix_view spelled.now.symbols.now)) tokens.now result
-        (onto.more_suffixes left (reading.inner left) (map (suffix_view spelled.now.symbols.now) so_far) (drop at tokens.now)) }
+    requires { StandsAtToken tokens.now at }
+    ensures gives { GivesReading (map suffix_view) tokens.now result
+        (onto.more_suffixes left (reading.inner left) (map suffix_view so_far) (drop at tokens.now)) }
     ensures moves { IfOk result (λ r. (at ≤ r.1) × StandsAtToken tokens.now r.1) }
 {
     let mut suffixes = so_far;
     let mut to = at;
     'more: while let Some(next) = at_suffix(tokens, to) {
-        let (one, after) = suffix(spelled, tokens, next, left)?;
+        let (one, after) = suffix(alloc, tokens, next, left)?;
         suffixes.push_within(2, one)?;
         to = after;
     }
@@ -396,20 +365,19 @@ fn more_suffixes(
 #[cycle(rules)]
 #[tactic(auto, using(pc_tree::proofs::Views::view_dot, crate::proofs::Ends::is_sign_not_end), unfolding(pc_grammar::specs::Reading::suffix, pc_grammar::specs::Reading::peek, pc_grammar::specs::Reading::take_if))]
 fn suffix(
-    spelled: &Spelled,
+    alloc: Global,
     tokens: &[Token],
     at: usize,
     left: u16,
 ) -> Result<(Suffix, usize), ParseStop>
-    requires stands { StandsAtToken tokens.now at }
-    requires numbered { Numbered spelled.now.symbols.now spelled.now.numbers.now tokens.now }
-    ensures gives { GivesReading (suffix_view spelled.now.symbols.now) tokens.now result (reading.suffix left (reading.inner left).expr (drop at tokens.now)) }
+    requires { StandsAtToken tokens.now at }
+    ensures gives { GivesReading suffix_view tokens.now result (reading.suffix left (reading.inner left).expr (drop at tokens.now)) }
     ensures moves { IfOk result (λ r. Moves tokens.now at r.1) }
 {
     if !is_sign(look(tokens, at), Sign::Dot) {
-        return arguments(spelled, tokens, at, left);
+        return arguments(alloc, tokens, at, left);
     }
-    let (name, to) = name(spelled, tokens, at + 1)?;
+    let (name, to) = name(alloc, tokens, at + 1)?;
     Ok((Suffix::Dot(name), to))
 }
 
@@ -417,21 +385,20 @@ fn suffix(
 #[cycle(rules)]
 #[tactic(auto, using(pc_tree::proofs::Views::view_args, pc_grammar::proofs::Levels::no_deeper, pc_grammar::proofs::Levels::one_deeper, pc_grammar::proofs::Levels::inner_expr), unfolding(pc_grammar::specs::Reading::args))]
 fn arguments(
-    spelled: &Spelled,
+    alloc: Global,
     tokens: &[Token],
     at: usize,
     left: u16,
 ) -> Result<(Suffix, usize), ParseStop>
-    requires stands { StandsAtToken tokens.now at }
-    requires numbered { Numbered spelled.now.symbols.now spelled.now.numbers.now tokens.now }
-    ensures gives { GivesReading (suffix_view spelled.now.symbols.now) tokens.now result (reading.args left (reading.inner left).expr (drop at tokens.now)) }
+    requires { StandsAtToken tokens.now at }
+    ensures gives { GivesReading suffix_view tokens.now result (reading.args left (reading.inner left).expr (drop at tokens.now)) }
     ensures moves { IfOk result (λ r. Moves tokens.now at r.1) }
 {
     if left == 0 {
         return Err(ParseStop::TooDeep(at));
     }
     let (opener, begin) = take_sign(tokens, at, Sign::OpenParen)?;
-    let (args, end) = arg_list(spelled, tokens, begin, left - 1)?;
+    let (args, end) = arg_list(alloc, tokens, begin, left - 1)?;
     let (close, to) = take_sign(tokens, end, Sign::CloseParen)?;
     let span = join(opener.span, close.span);
     Ok((Suffix::Args { args, span }, to))
@@ -441,39 +408,37 @@ fn arguments(
 #[cycle(rules)]
 #[tactic(auto, using(crate::proofs::Parts::args_by_parts), unfolding(crate::specs::Onto::arg_list_parts, pc_grammar::specs::Reading::peek))]
 fn arg_list(
-    spelled: &Spelled,
+    alloc: Global,
     tokens: &[Token],
     at: usize,
     left: u16,
 ) -> Result<(List<Expr>, usize), ParseStop>
-    requires stands { StandsAtToken tokens.now at }
-    requires numbered { Numbered spelled.now.symbols.now spelled.now.numbers.now tokens.now }
-    ensures gives { GivesReading (exprs_view spelled.now.symbols.now) tokens.now result (reading.arg_list (reading.expr_in left (reading.inner left)) (drop at tokens.now)) }
+    requires { StandsAtToken tokens.now at }
+    ensures gives { GivesReading exprs_view tokens.now result (reading.arg_list (reading.expr_in left (reading.inner left)) (drop at tokens.now)) }
     ensures moves { IfOk result (λ r. (at ≤ r.1) × StandsAtToken tokens.now r.1) }
 {
     if is_sign(look(tokens, at), Sign::CloseParen) {
-        return Ok((List::new(spelled.alloc), at));
+        return Ok((List::new(alloc), at));
     }
-    some_args(spelled, tokens, at, left)
+    some_args(alloc, tokens, at, left)
 }
 
 /// Expr {"," Expr}
 #[cycle(rules)]
 fn some_args(
-    spelled: &Spelled,
+    alloc: Global,
     tokens: &[Token],
     at: usize,
     left: u16,
 ) -> Result<(List<Expr>, usize), ParseStop>
-    requires stands { StandsAtToken tokens.now at }
-    requires numbered { Numbered spelled.now.symbols.now spelled.now.numbers.now tokens.now }
-    ensures gives { GivesReading (map (expr_view spelled.now.symbols.now)) tokens.now result (onto.some_args (reading.expr_in left (reading.inner left)) (drop at tokens.now)) }
+    requires { StandsAtToken tokens.now at }
+    ensures gives { GivesReading (map expr_view) tokens.now result (onto.some_args (reading.expr_in left (reading.inner left)) (drop at tokens.now)) }
     ensures moves { IfOk result (λ r. Moves tokens.now at r.1) }
 {
-    let mut args = List::new(spelled.alloc);
+    let mut args = List::new(alloc);
     let mut to = at;
     'more: loop {
-        let (one, after) = expr(spelled, tokens, to, left)?;
+        let (one, after) = expr(alloc, tokens, to, left)?;
         args.push_within(1, one)?;
         match after_comma(tokens, after) {
             Some(next) => to = next,
@@ -485,22 +450,16 @@ fn some_args(
 /// One token, or something in brackets.
 #[cycle(rules)]
 #[tactic(auto, using(pc_tree::proofs::Views::view_number, pc_tree::proofs::Views::view_truth, pc_tree::proofs::Views::view_this), unfolding(pc_grammar::specs::Reading::atom, pc_grammar::specs::Reading::peek, pc_grammar::specs::Reading::take_if, crate::specs::Onto::named, crate::specs::Onto::type_named, crate::specs::Onto::text_at))]
-fn atom(
-    spelled: &Spelled,
-    tokens: &[Token],
-    at: usize,
-    left: u16,
-) -> Result<(Expr, usize), ParseStop>
-    requires stands { StandsAtToken tokens.now at }
-    requires numbered { Numbered spelled.now.symbols.now spelled.now.numbers.now tokens.now }
-    ensures gives { GivesReading (expr_view spelled.now.symbols.now) tokens.now result (reading.atom left (reading.inner left).seq (drop at tokens.now)) }
+fn atom(alloc: Global, tokens: &[Token], at: usize, left: u16) -> Result<(Expr, usize), ParseStop>
+    requires { StandsAtToken tokens.now at }
+    ensures gives { GivesReading expr_view tokens.now result (reading.atom left (reading.inner left).seq (drop at tokens.now)) }
     ensures moves { IfOk result (λ r. Moves tokens.now at r.1) }
 {
     let token = look(tokens, at);
     let span = token.span;
     match &token.kind {
-        TokenKind::Name(_) => named(spelled, tokens, at),
-        TokenKind::TypeName(_) => type_named(spelled, tokens, at),
+        TokenKind::Name(_) => named(alloc, tokens, at),
+        TokenKind::TypeName(_) => type_named(alloc, tokens, at),
         TokenKind::Number(value) => Ok((
             Expr::Number {
                 value: *value,
@@ -508,14 +467,14 @@ fn atom(
             },
             at + 1,
         )),
-        TokenKind::Text(_) => text(spelled, tokens, at),
+        TokenKind::Text(_) => text(alloc, tokens, at),
         TokenKind::Word(Word::ThisWord) => Ok((Expr::This(span), at + 1)),
         TokenKind::Word(Word::TrueWord) => Ok((Expr::Truth { value: true, span }, at + 1)),
         TokenKind::Word(Word::FalseWord) => Ok((Expr::Truth { value: false, span }, at + 1)),
-        TokenKind::Sign(Sign::OpenParen) => group(spelled, tokens, at, left),
-        TokenKind::Word(Word::IfWord) => choice(spelled, tokens, at, left),
-        TokenKind::Word(Word::WhileWord) => repetition(spelled, tokens, at, left),
-        TokenKind::Word(Word::RecoverWord) => recovery(spelled, tokens, at, left),
+        TokenKind::Sign(Sign::OpenParen) => group(alloc, tokens, at, left),
+        TokenKind::Word(Word::IfWord) => choice(alloc, tokens, at, left),
+        TokenKind::Word(Word::WhileWord) => repetition(alloc, tokens, at, left),
+        TokenKind::Word(Word::RecoverWord) => recovery(alloc, tokens, at, left),
         TokenKind::Word(_) | TokenKind::Doc | TokenKind::Sign(_) | TokenKind::End => Err(
             ParseStop::Unexpected(at),
         ),
@@ -525,49 +484,37 @@ fn atom(
 /// "(" Seq ")"
 #[cycle(rules)]
 #[tactic(auto, using(pc_tree::proofs::Views::view_group, pc_grammar::proofs::Levels::no_deeper, pc_grammar::proofs::Levels::one_deeper, pc_grammar::proofs::Levels::inner_seq), unfolding(pc_grammar::specs::Reading::group))]
-fn group(
-    spelled: &Spelled,
-    tokens: &[Token],
-    at: usize,
-    left: u16,
-) -> Result<(Expr, usize), ParseStop>
-    requires stands { StandsAtToken tokens.now at }
-    requires numbered { Numbered spelled.now.symbols.now spelled.now.numbers.now tokens.now }
-    ensures gives { GivesReading (expr_view spelled.now.symbols.now) tokens.now result (reading.group left (reading.inner left).seq (drop at tokens.now)) }
+fn group(alloc: Global, tokens: &[Token], at: usize, left: u16) -> Result<(Expr, usize), ParseStop>
+    requires { StandsAtToken tokens.now at }
+    ensures gives { GivesReading expr_view tokens.now result (reading.group left (reading.inner left).seq (drop at tokens.now)) }
     ensures moves { IfOk result (λ r. Moves tokens.now at r.1) }
 {
     if left == 0 {
         return Err(ParseStop::TooDeep(at));
     }
     let (opener, begin) = take_sign(tokens, at, Sign::OpenParen)?;
-    let (body, end) = seq(spelled, tokens, begin, left - 1)?;
+    let (body, end) = seq(alloc, tokens, begin, left - 1)?;
     let (close, to) = take_sign(tokens, end, Sign::CloseParen)?;
     let span = join(opener.span, close.span);
-    let body = Box::new(spelled.alloc, body)?;
+    let body = Box::new(alloc, body)?;
     Ok((Expr::Group { body, span }, to))
 }
 
 /// "if" Seq "then" Seq {"elseif" Seq "then" Seq} ["else" Seq] "end"
 #[cycle(rules)]
 #[tactic(auto, using(pc_tree::proofs::Views::view_if, crate::proofs::Parts::if_by_parts, pc_grammar::proofs::Levels::no_deeper, pc_grammar::proofs::Levels::one_deeper, pc_grammar::proofs::Levels::inner_seq), unfolding(crate::specs::Onto::if_parts))]
-fn choice(
-    spelled: &Spelled,
-    tokens: &[Token],
-    at: usize,
-    left: u16,
-) -> Result<(Expr, usize), ParseStop>
-    requires stands { StandsAtToken tokens.now at }
-    requires numbered { Numbered spelled.now.symbols.now spelled.now.numbers.now tokens.now }
-    ensures gives { GivesReading (expr_view spelled.now.symbols.now) tokens.now result (reading.if_ left (reading.inner left).seq (drop at tokens.now)) }
+fn choice(alloc: Global, tokens: &[Token], at: usize, left: u16) -> Result<(Expr, usize), ParseStop>
+    requires { StandsAtToken tokens.now at }
+    ensures gives { GivesReading expr_view tokens.now result (reading.if_ left (reading.inner left).seq (drop at tokens.now)) }
     ensures moves { IfOk result (λ r. Moves tokens.now at r.1) }
 {
     if left == 0 {
         return Err(ParseStop::TooDeep(at));
     }
-    let (arms, end) = arms(spelled, tokens, at, left - 1)?;
-    let (other, end) = otherwise(spelled, tokens, end, left - 1)?;
+    let (arms, end) = arms(alloc, tokens, at, left - 1)?;
+    let (other, end) = otherwise(alloc, tokens, end, left - 1)?;
     let (close, to) = take_word(tokens, end, Word::EndWord)?;
-    let span = join(first_arm(spelled.symbols, arms.as_slice()), close.span);
+    let span = join(first_arm(arms.as_slice()), close.span);
     Ok((Expr::If { arms, other, span }, to))
 }
 
@@ -575,40 +522,38 @@ fn choice(
 #[cycle(rules)]
 #[tactic(auto, unfolding(crate::specs::Onto::arms))]
 fn arms(
-    spelled: &Spelled,
+    alloc: Global,
     tokens: &[Token],
     at: usize,
     left: u16,
 ) -> Result<(List<Arm>, usize), ParseStop>
-    requires stands { StandsAtToken tokens.now at }
-    requires numbered { Numbered spelled.now.symbols.now spelled.now.numbers.now tokens.now }
-    ensures gives { GivesReading (map (arm_view spelled.now.symbols.now)) tokens.now result (onto.arms (reading.seq_in left (reading.inner left)) (drop at tokens.now)) }
+    requires { StandsAtToken tokens.now at }
+    ensures gives { GivesReading (map arm_view) tokens.now result (onto.arms (reading.seq_in left (reading.inner left)) (drop at tokens.now)) }
     ensures moves { IfOk result (λ r. Moves tokens.now at r.1) }
 {
-    let (first, to) = arm(spelled, tokens, at, left, Word::IfWord)?;
-    let mut arms = List::new(spelled.alloc);
+    let (first, to) = arm(alloc, tokens, at, left, Word::IfWord)?;
+    let mut arms = List::new(alloc);
     arms.push_within(1, first)?;
-    more_arms(spelled, tokens, to, left, arms)
+    more_arms(alloc, tokens, to, left, arms)
 }
 
 /// {"elseif" Seq "then" Seq}, after some arms.
 #[cycle(rules)]
 fn more_arms(
-    spelled: &Spelled,
+    alloc: Global,
     tokens: &[Token],
     at: usize,
     left: u16,
     so_far: List<Arm>,
 ) -> Result<(List<Arm>, usize), ParseStop>
-    requires stands { StandsAtToken tokens.now at }
-    requires numbered { Numbered spelled.now.symbols.now spelled.now.numbers.now tokens.now }
-    ensures gives { GivesReading (map (arm_view spelled.now.symbols.now)) tokens.now result (onto.more_arms (reading.seq_in left (reading.inner left)) (map (arm_view spelled.now.symbols.now) so_far) (drop at tokens.now)) }
+    requires { StandsAtToken tokens.now at }
+    ensures gives { GivesReading (map arm_view) tokens.now result (onto.more_arms (reading.seq_in left (reading.inner left)) (map arm_view so_far) (drop at tokens.now)) }
     ensures moves { IfOk result (λ r. (at ≤ r.1) × StandsAtToken tokens.now r.1) }
 {
     let mut arms = so_far;
     let mut to = at;
     'more: while let Some(next) = at_elseif(tokens, to) {
-        let (one, after) = arm(spelled, tokens, next, left, Word::ElseifWord)?;
+        let (one, after) = arm(alloc, tokens, next, left, Word::ElseifWord)?;
         arms.push(one)?;
         to = after;
     }
@@ -619,20 +564,19 @@ fn more_arms(
 #[cycle(rules)]
 #[tactic(auto, using(pc_tree::proofs::Views::view_arm, crate::proofs::Parts::arm_reads))]
 fn arm(
-    spelled: &Spelled,
+    alloc: Global,
     tokens: &[Token],
     at: usize,
     left: u16,
     word: Word,
 ) -> Result<(Arm, usize), ParseStop>
-    requires stands { StandsAtToken tokens.now at }
-    requires numbered { Numbered spelled.now.symbols.now spelled.now.numbers.now tokens.now }
-    ensures gives { GivesReading (arm_view spelled.now.symbols.now) tokens.now result (reading.arm word (reading.seq_in left (reading.inner left)) (drop at tokens.now)) }
+    requires { StandsAtToken tokens.now at }
+    ensures gives { GivesReading arm_view tokens.now result (reading.arm word (reading.seq_in left (reading.inner left)) (drop at tokens.now)) }
     ensures moves { IfOk result (λ r. Moves tokens.now at r.1) }
 {
     let (opener, begin) = take_word(tokens, at, word)?;
-    let ((cond, _), begin) = closed(spelled, tokens, begin, left, Word::ThenWord)?;
-    match seq(spelled, tokens, begin, left) {
+    let ((cond, _), begin) = closed(alloc, tokens, begin, left, Word::ThenWord)?;
+    match seq(alloc, tokens, begin, left) {
         Ok((body, to)) => {
             let span = join(opener.span, body.span);
             Ok((Arm { cond, body, span }, to))
@@ -648,18 +592,17 @@ fn arm(
 #[cycle(rules)]
 #[tactic(auto, using(crate::proofs::Ends::is_word_not_end), unfolding(pc_grammar::specs::Reading::take_if))]
 fn closed(
-    spelled: &Spelled,
+    alloc: Global,
     tokens: &[Token],
     at: usize,
     left: u16,
     word: Word,
 ) -> Result<((Seq, Span), usize), ParseStop>
-    requires stands { StandsAtToken tokens.now at }
-    requires numbered { Numbered spelled.now.symbols.now spelled.now.numbers.now tokens.now }
-    ensures gives { GivesReading {Y = t.Seq × Place} (λ p. (seq_view spelled.now.symbols.now p.0, p.1)) tokens.now result (reading.and_then (reading.seq_in left (reading.inner left) (drop at tokens.now)) (λ body ts. reading.and_then (reading.take_if (spec.is_word word) ts) (λ close. reading.pure (body, close.span)))) }
+    requires { StandsAtToken tokens.now at }
+    ensures gives { GivesReading {Y = t.Seq × Place} (λ p. (seq_view p.0, p.1)) tokens.now result (reading.and_then (reading.seq_in left (reading.inner left) (drop at tokens.now)) (λ body ts. reading.and_then (reading.take_if (spec.is_word word) ts) (λ close. reading.pure (body, close.span)))) }
     ensures moves { IfOk result (λ r. Moves tokens.now at r.1) }
 {
-    let (body, end) = seq(spelled, tokens, at, left)?;
+    let (body, end) = seq(alloc, tokens, at, left)?;
     let token = look(tokens, end);
     if is_word(token, word) {
         Ok(((body, token.span), end + 1))
@@ -673,46 +616,44 @@ fn closed(
 #[cycle(rules)]
 #[tactic(auto, using(crate::proofs::Ends::is_word_not_end), unfolding(pc_grammar::specs::Reading::other, pc_grammar::specs::Reading::peek, pc_grammar::specs::Reading::take_if))]
 fn otherwise(
-    spelled: &Spelled,
+    alloc: Global,
     tokens: &[Token],
     at: usize,
     left: u16,
 ) -> Result<(Option<Box<Seq>>, usize), ParseStop>
-    requires stands { StandsAtToken tokens.now at }
-    requires numbered { Numbered spelled.now.symbols.now spelled.now.numbers.now tokens.now }
-    ensures gives { GivesReading (other_view spelled.now.symbols.now) tokens.now result (reading.other (reading.seq_in left (reading.inner left)) (drop at tokens.now)) }
+    requires { StandsAtToken tokens.now at }
+    ensures gives { GivesReading other_view tokens.now result (reading.other (reading.seq_in left (reading.inner left)) (drop at tokens.now)) }
     ensures moves { IfOk result (λ r. (at ≤ r.1) × StandsAtToken tokens.now r.1) }
 {
     if !is_word(look(tokens, at), Word::ElseWord) {
         return Ok((None, at));
     }
-    let (body, to) = seq(spelled, tokens, at + 1, left)?;
-    Ok((Some(Box::new(spelled.alloc, body)?), to))
+    let (body, to) = seq(alloc, tokens, at + 1, left)?;
+    Ok((Some(Box::new(alloc, body)?), to))
 }
 
 /// "while" Seq "do" Seq "end"
 #[cycle(rules)]
 #[tactic(auto, using(crate::proofs::Parts::while_deep, crate::proofs::Parts::while_reads))]
 fn repetition(
-    spelled: &Spelled,
+    alloc: Global,
     tokens: &[Token],
     at: usize,
     left: u16,
 ) -> Result<(Expr, usize), ParseStop>
-    requires stands { StandsAtToken tokens.now at }
-    requires numbered { Numbered spelled.now.symbols.now spelled.now.numbers.now tokens.now }
-    ensures gives { GivesReading (expr_view spelled.now.symbols.now) tokens.now result (reading.while_ left (reading.inner left).seq (drop at tokens.now)) }
+    requires { StandsAtToken tokens.now at }
+    ensures gives { GivesReading expr_view tokens.now result (reading.while_ left (reading.inner left).seq (drop at tokens.now)) }
     ensures moves { IfOk result (λ r. Moves tokens.now at r.1) }
 {
     if left == 0 {
         return Err(ParseStop::TooDeep(at));
     }
     let (opener, begin) = take_word(tokens, at, Word::WhileWord)?;
-    let ((cond, _), begin) = closed(spelled, tokens, begin, left - 1, Word::DoWord)?;
-    match closed(spelled, tokens, begin, left - 1, Word::EndWord) {
+    let ((cond, _), begin) = closed(alloc, tokens, begin, left - 1, Word::DoWord)?;
+    match closed(alloc, tokens, begin, left - 1, Word::EndWord) {
         Ok(((body, close), to)) => {
             let span = join(opener.span, close);
-            Ok((repeated(spelled, cond, body, span)?, to))
+            Ok((repeated(alloc, cond, body, span)?, to))
         }
         Err(stop) => {
             drop(cond);
@@ -723,12 +664,12 @@ fn repetition(
 
 /// A loop with its condition and body.
 #[tactic(auto, using(pc_tree::proofs::Views::view_while))]
-fn repeated(spelled: &Spelled, cond: Seq, body: Seq, span: Span) -> Result<Expr, ParseStop>
-    ensures ok { IfOk result (λ e. expr_view spelled.now.symbols.now e ≡ t.while_ (seq_view spelled.now.symbols.now cond) (seq_view spelled.now.symbols.now body) span) }
+fn repeated(alloc: Global, cond: Seq, body: Seq, span: Span) -> Result<Expr, ParseStop>
+    ensures ok { IfOk result (λ e. expr_view e ≡ t.while_ (seq_view cond) (seq_view body) span) }
     ensures err { IfErr result (λ e. e ≡ Memory) }
 {
-    let cond = Box::new(spelled.alloc, cond)?;
-    let body = Box::new(spelled.alloc, body)?;
+    let cond = Box::new(alloc, cond)?;
+    let body = Box::new(alloc, body)?;
     Ok(Expr::While { cond, body, span })
 }
 
@@ -736,14 +677,13 @@ fn repeated(spelled: &Spelled, cond: Seq, body: Seq, span: Span) -> Result<Expr,
 #[cycle(rules)]
 #[tactic(auto, using(pc_tree::proofs::Views::view_recover, crate::proofs::Parts::recover_deep, crate::proofs::Parts::recover_reads))]
 fn recovery(
-    spelled: &Spelled,
+    alloc: Global,
     tokens: &[Token],
     at: usize,
     left: u16,
 ) -> Result<(Expr, usize), ParseStop>
-    requires stands { StandsAtToken tokens.now at }
-    requires numbered { Numbered spelled.now.symbols.now spelled.now.numbers.now tokens.now }
-    ensures gives { GivesReading (expr_view spelled.now.symbols.now) tokens.now result (reading.recover_ left (reading.inner left).seq (drop at tokens.now)) }
+    requires { StandsAtToken tokens.now at }
+    ensures gives { GivesReading expr_view tokens.now result (reading.recover_ left (reading.inner left).seq (drop at tokens.now)) }
     ensures moves { IfOk result (λ r. Moves tokens.now at r.1) }
 {
     if left == 0 {
@@ -751,8 +691,8 @@ fn recovery(
     }
     let (opener, begin) = take_word(tokens, at, Word::RecoverWord)?;
     let (cap, begin) = maybe_cap(tokens, begin);
-    let ((body, close), to) = closed(spelled, tokens, begin, left - 1, Word::EndWord)?;
+    let ((body, close), to) = closed(alloc, tokens, begin, left - 1, Word::EndWord)?;
     let span = join(opener.span, close);
-    let body = Box::new(spelled.alloc, body)?;
+    let body = Box::new(alloc, body)?;
     Ok((Expr::Recover { cap, body, span }, to))
 }

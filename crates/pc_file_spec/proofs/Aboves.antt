@@ -1,7 +1,7 @@
 -- Where the methods of a trait are written.
 use Rattle.std.proofs.{Common.{◌≡◌, ℕ, zero, suc, ◌+◌, List, [], ◌∷◌, ◌++◌, Some, Bool, true, false, cond, refl, sym, ap, ◌∙◌, arith, inl, inr}, lemmas.Iterator.Adapters.position_from-zero, lemmas.Option.{same_Some, none-some}}
 use Rattle.std.specs.{Prelude.{slice_get, ◌⊎◌, position}, List.position_from, Str.bytes_eq}
-use Rattle.pc_tree.specs.{Tree.Name, Kinds.{is_abstract, first_own}}
+use Rattle.pc_tree.specs.{declared.written_names.Name.Name, Kinds.{is_abstract, first_own}}
 use Rattle.pc_tree.specs.Tree as t
 use Rattle.pc_base.specs.Lists.{Has, Differ, Text}
 use Rattle.pc_base.proofs.{Bools.true_false, Gets.{get_append, get_map}, Elements.has_either}

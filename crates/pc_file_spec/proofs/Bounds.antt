@@ -2,7 +2,7 @@
 use Rattle.std.proofs.{Common.{◌≡◌, ℕ, zero, suc, ◌+◌, ◌-◌, ◌<◌, ◌≤◌, List, [], ◌∷◌, ◌++◌, length, Option, Some, None, Bool, true, false, refl, sym, ap, ◌∙◌, subst, arith, if◌then◌else◌, inl, inr}, lemmas.Bool.cases_lt, lemmas.Option.{same_Some, none-some}}
 use Rattle.std.specs.{Prelude.{slice_get, ◌⊎◌}, Str.bytes_eq}
 use Rattle.pc_base.proofs.{Gets.{get_below, get_append, get_map, map_get}, Bools.true_false, Elements.{has_on, has_either, has_front, has_behind}}
-use Rattle.pc_tree.specs.{Tree.Name, Kinds.{is_abstract, first_own}}
+use Rattle.pc_tree.specs.{declared.written_names.Name.Name, Kinds.{is_abstract, first_own}}
 use Rattle.pc_tree.specs.Tree as t
 use Rattle.pc_base.specs.Lists.{Has, Differ, Text}
 use Rattle.pc_members.specs.{MemberLists.{is_among, firsts, entity_named, of_each, trait_methods}, Parts.of_entity, Members.{built_in_names, texts_of, entity_names, method_texts, IsTransitiveClosure}}

@@ -1,7 +1,7 @@
 -- Properties of a file whose names have no fault.
 use Rattle.std.proofs.{Common.{◌≡◌, ℕ, zero, suc, ◌+◌, ◌<◌, ◌≤◌, ◌&&◌, ◌||◌, List, [], ◌∷◌, ◌++◌, length, Option, Some, None, Bool, true, false, not, sym, ◌∙◌, subst, arith, append-nil}, lemmas.Bool.{ltb-true, not-false}, lemmas.Option.{same_Some, none-some}, lemmas.List.{length_push, append_assoc}}
 use Rattle.std.specs.Prelude.{nat_lt, codes, drop}
-use Rattle.pc_tree.specs.{Tree.{ParamDef, Name, TypeRef}, Kinds.first_own}
+use Rattle.pc_tree.specs.{declared.file.ParamDef.ParamDef, declared.written_names.Name.Name, declared.written_names.TypeRef.TypeRef, Kinds.first_own}
 use Rattle.pc_tree.specs.Tree as t
 use Rattle.pc_base.specs.{Lists.{Has, Differ, Text}, Limits.field_limit}
 use Rattle.pc_names.specs.declared.fault.NameFault.TheVariants as fault

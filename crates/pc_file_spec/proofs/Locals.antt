@@ -3,7 +3,7 @@ use Rattle.std.proofs.{Common.{◌≡◌, ℕ, suc, ◌+◌, ◌-◌, ◌<◌, �
 use Rattle.std.specs.Prelude.{slice_get, slice_range, ◌⊎◌}
 use Rattle.pc_caps.specs.declared.capability.Cap.{Cap}
 use Rattle.pc_base.proofs.Gets.{get_front, get_below, append_get, get_append}
-use Rattle.pc_tree.specs.Tree.{TypeRef, ParamDef}
+use Rattle.pc_tree.specs.{declared.written_names.TypeRef.TypeRef, declared.file.ParamDef.ParamDef}
 use Rattle.pc_tree.specs.Tree as t
 use Rattle.pc_core.specs.{declared.declarations.Method.Method, declared.nodes.Node.Node, CoreData.{CoreData, node_end}, Further.own_nodes, Methods.{PostOrder, BodyFits, LocalFits, UsesSlot, is_local}}
 use Rattle.pc_core.specs.declared.nodes.NodeKind.TheVariants as node

@@ -4,7 +4,7 @@ use Rattle.std.specs.{Prelude.{slice_get, codes}, List.list_any, Str.bytes_eq}
 use Rattle.pc_base.proofs.{Gets.{get_front, get_map}, Bools.true_false}
 use Rattle.pc_caps.specs.declared.capability.Cap.{Cap}
 use Rattle.pc_caps.specs.declared.capability.Cap.TheVariants as cap
-use Rattle.pc_tree.specs.{declared.kinds.EntityKind.EntityKind, declared.kinds.MethodWord.MethodWord, Tree.ParamDef, Kinds.{is_abstract, first_own}}
+use Rattle.pc_tree.specs.{declared.kinds.EntityKind.EntityKind, declared.kinds.MethodWord.MethodWord, declared.file.ParamDef.ParamDef, Kinds.{is_abstract, first_own}}
 use Rattle.pc_tree.specs.declared.kinds.EntityKind.TheVariants as kind
 use Rattle.pc_tree.specs.declared.kinds.MethodWord.TheVariants as word
 use Rattle.pc_tree.specs.Tree as t

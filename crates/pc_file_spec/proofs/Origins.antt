@@ -1,7 +1,7 @@
 -- Where the members of an entity come from.
 use Rattle.std.proofs.{Common.{◌≡◌, ℕ, zero, suc, ◌&&◌, List, [], ◌∷◌, ◌++◌, length, map, Option, Some, None, Bool, true, false, not, refl, sym, ap, ◌∙◌, subst, if◌then◌else◌, inl, inr, append-nil}, lemmas.Bool.not-true, lemmas.Option.{same_Some, none-some}, lemmas.List.{append_assoc, map-append}}
 use Rattle.std.specs.Prelude.{◌⊎◌, codes}
-use Rattle.pc_tree.specs.{declared.kinds.EntityKind.EntityKind, Tree.Name, Kinds.{is_abstract, may_stand, FieldsIf}, Members.MayHaveFields}
+use Rattle.pc_tree.specs.{declared.kinds.EntityKind.EntityKind, declared.written_names.Name.Name, Kinds.{is_abstract, may_stand, FieldsIf}, Members.MayHaveFields}
 use Rattle.pc_tree.specs.declared.kinds.EntityKind.TheVariants as kind
 use Rattle.pc_tree.specs.declared.kinds.MethodWord.TheVariants as word
 use Rattle.pc_tree.specs.Tree as t

@@ -3,7 +3,7 @@ use Rattle.std.proofs.{Common.{◌≡◌, ℕ, suc, ◌+◌, ◌<◌, ◌≤◌,
 use Rattle.std.specs.Prelude.{slice_get, ◌⊎◌, Result, Ok, Err}
 use Rattle.pc_base.proofs.Gets.{get_within}
 use Rattle.pc_base.specs.{declared.span.Span.Span, Lists.Each}
-use Rattle.pc_tree.specs.Tree.{Name, ParamDef}
+use Rattle.pc_tree.specs.{declared.written_names.Name.Name, declared.file.ParamDef.ParamDef}
 use Rattle.pc_tree.specs.Tree as t
 use Rattle.pc_core.specs.{declared.nodes.Node.Node, Entities.param_slot}
 use Rattle.pc_body_spec.specs.{Bodies.{Rose, body_of, added_body, Context}, Fold.{Numbered, put, local_slot}, Faults.{BodyNameFault, body_faults, initial_faults}, Slots.{Local, initial_locals, method_locals}, Methods.{MethodOutcome, slot_names, local_names, param_names, unless_fault, unless_name, unless_full, numbered_or_full, put_body}, Laws.BodyStands}

@@ -3,7 +3,7 @@ use Rattle.std.proofs.{Common.{◌≡◌, ℕ, zero, suc, ◌+◌, ◌<◌, List
 use Rattle.std.specs.{Prelude.{slice_get, codes}, Str.bytes_eq}
 use Rattle.pc_caps.specs.declared.capability.Cap.{Cap}
 use Rattle.pc_caps.specs.declared.capability.Cap.TheVariants as cap
-use Rattle.pc_tree.specs.{Tree.TypeRef, Kinds.first_own}
+use Rattle.pc_tree.specs.{declared.written_names.TypeRef.TypeRef, Kinds.first_own}
 use Rattle.pc_tree.specs.Tree as t
 use Rattle.pc_base.specs.Lists.{Text}
 use Rattle.pc_members.specs.Members.{built_in_names, entity_names}

@@ -1,7 +1,7 @@
 -- The core of a file, made member by member.
 use Rattle.std.specs.Prelude.{ℕ, suc, ◌+◌, List, [], ◌∷◌, ◌++◌, length, Option, codes, if◌then◌else◌, map, Bool, true, false, Some, None, Result, Ok, Err, ◌≡◌, ◌<◌, ◌^◌, slice_get, unwrap_or}
 use Rattle.pc_caps.specs.{declared.capability.Cap.Cap, Tables.{plain, unalias}, declared.capability.Form.Form}
-use Rattle.pc_tree.specs.{declared.kinds.EntityKind.EntityKind, declared.kinds.MethodWord.MethodWord, Tree.{TypeRef, ParamDef}, Kinds.{none_entity, first_own}}
+use Rattle.pc_tree.specs.{declared.kinds.EntityKind.EntityKind, declared.kinds.MethodWord.MethodWord, declared.written_names.TypeRef.TypeRef, declared.file.ParamDef.ParamDef, Kinds.{none_entity, first_own}}
 use Rattle.pc_base.specs.Lists.{Text}
 use Rattle.pc_names.specs.{Faults.{built_in_texts, with_members, NamesData, Collected}, declared.fault.NameFault.NameFault}
 use Rattle.pc_members.specs.{MemberLists.{with_names, is_constructor, members, member_span}, Members.{Member, member_text, field_texts, written, added, entity_names}, Edges.entity_numbers}

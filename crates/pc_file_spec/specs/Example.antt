@@ -2,7 +2,7 @@
 use Rattle.std.specs.Prelude.{ℕ, List, [], ◌∷◌, ◌++◌, true, false, Option, Some, None, codes}
 use Rattle.pc_base.specs.declared.span.Span.{Span}
 use Rattle.pc_caps.specs.{declared.capability.Cap.Cap, declared.capability.Form.Form}
-use Rattle.pc_tree.specs.{declared.kinds.EntityKind.EntityKind, Tree.{Name, TypeRef}, Kinds.{none_entity, u64_entity, bool_entity, string_entity, env_entity, out_stream_entity}}
+use Rattle.pc_tree.specs.{declared.kinds.EntityKind.EntityKind, declared.written_names.Name.Name, declared.written_names.TypeRef.TypeRef, Kinds.{none_entity, u64_entity, bool_entity, string_entity, env_entity, out_stream_entity}}
 use Rattle.pc_core.specs.{declared.declarations.EntityDef.EntityDef, declared.declarations.FieldInfo.FieldInfo, declared.declarations.Method.Method, declared.declarations.MethodKind.MethodKind, declared.declarations.ParamInfo.ParamInfo, declared.nodes.Slot.Slot, declared.nodes.SlotKind.SlotKind, declared.nodes.NodeKind.NodeKind, declared.nodes.Node.Node, CoreData.CoreData, Formed.Formed}
 use Rattle.pc_file_spec.specs.Cores.{Stands, IsElabFault}
 use Rattle.pc_caps.specs.declared.capability.Cap.TheVariants as cap

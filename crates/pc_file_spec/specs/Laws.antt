@@ -2,7 +2,7 @@
 use Rattle.std.specs.Prelude.{◌≡◌, ◌⊎◌, ◌↔◌, ℕ, ◌+◌, ◌<◌, ◌≤◌, ◌^◌, true, false, [], ◌∷◌, ◌++◌, map, length, Some, slice_get, codes}
 use Rattle.pc_base.specs.{Limits.{node_limit, program_slot_limit}, Lists.{Has, Differ, Text}}
 use Rattle.pc_core.specs.{CoreData.CoreData, Formed.Formed}
-use Rattle.pc_tree.specs.{Kinds.{is_abstract, first_own}, Tree.Name}
+use Rattle.pc_tree.specs.{Kinds.{is_abstract, first_own}, declared.written_names.Name.Name}
 use Rattle.pc_names.specs.{declared.fault.NameFault.NameFault, Faults.{NamesData, Collected}}
 use Rattle.pc_members.specs.{Members.{LeadsInFile, field_texts, method_texts, Member, written, without_body, is_takable, own_texts, member_text}, MemberLists.{trait_methods, abstract_methods, members}}
 use Rattle.pc_body_spec.specs.Slots.{entities_texts}

@@ -1,3 +1,2 @@
 pub mod Generated
 pub mod Program
-pub mod Names

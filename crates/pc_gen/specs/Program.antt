@@ -11,7 +11,7 @@
 use Rattle.std.specs.{Prelude.{ℕ, Bool, false, List, [], ◌∷◌, Option, Some, None, codes, suc, ◌+◌, ◌*◌, ◌==◌, true, if◌then◌else◌, ◌++◌, map}, List.range_with_len, Fmt.decimal}
 use Rattle.pc_base.specs.declared.span.Span.{Span}
 use Rattle.pc_caps.specs.declared.capability.Cap.{Cap}
-use Rattle.pc_tree.specs.{Tree.{Name, TypeRef, ParamDef}, declared.kinds.Op.Op, declared.kinds.MethodWord.MethodWord, Parts.{exprs_of, suffixes_of, arms_of, items_of}}
+use Rattle.pc_tree.specs.{declared.written_names.Name.Name, declared.written_names.TypeRef.TypeRef, declared.file.ParamDef.ParamDef, declared.kinds.Op.Op, declared.kinds.MethodWord.MethodWord, Parts.{exprs_of, suffixes_of, arms_of, items_of}}
 use Rattle.pc_gen.specs.declared.task.Task.{Task}
 use Rattle.pc_draws.specs.Draws.{draw}
 use Rattle.pc_tree.specs.Tree as t

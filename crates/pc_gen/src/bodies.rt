@@ -5,8 +5,6 @@ ghost use Rattle.pc_tree.specs.Tree as t;
 ghost use Rattle.pc_tree.specs.View.{expr_view, item_view, suffix_view, seq_view};
 ghost use Rattle.pc_tree.specs.declared.kinds.Op.TheVariants as op;
 ghost use Rattle.pc_gen.specs.Program as spec;
-ghost use Rattle.pc_gen.specs.Names.{Knows, KnowsNames};
-ghost use Rattle.pc_base.specs.Lists.{Has};
 
 use crate::parts::{
     alone, arguments, assigned, call, chained, choice, dot, entity, local, number, one, operation,
@@ -15,249 +13,214 @@ use crate::parts::{
 use crate::task::Task;
 use pc_base::List;
 use pc_caps::Cap;
-use pc_symbols::Symbols;
 use pc_tree::{Expr, Item, Op, ParamDef, Seq, Suffix};
 use std::alloc::{AllocError, Global};
 
 // `x.add(e)`
-fn add(alloc: Global, symbols: &Symbols, name: &[u8], amount: Expr) -> Result<Expr, AllocError>
-    requires has_name { Has symbols.now name.now }
-    requires knows { KnowsNames symbols.now }
-    ensures { IfOk result (λ e. expr_view symbols.now e ≡ spec.add_expression name.now (expr_view symbols.now amount)) }
+fn add(alloc: Global, name: &[u8], amount: Expr) -> Result<Expr, AllocError>
+    ensures { IfOk result (λ e. expr_view e ≡ spec.add_expression name.now (expr_view amount)) }
 {
     let args = one(alloc, amount)?;
-    call(alloc, symbols, name, b"add", args)
+    call(alloc, name, b"add", args)
 }
 
 // `x.value()`
-fn value(alloc: Global, symbols: &Symbols, name: &[u8]) -> Result<Expr, AllocError>
-    requires has_name { Has symbols.now name.now }
-    requires knows { KnowsNames symbols.now }
-    ensures { IfOk result (λ e. expr_view symbols.now e ≡ spec.value_expression name.now) }
+fn value(alloc: Global, name: &[u8]) -> Result<Expr, AllocError>
+    ensures { IfOk result (λ e. expr_view e ≡ spec.value_expression name.now) }
 {
-    call(alloc, symbols, name, b"value", List::new(alloc))
+    call(alloc, name, b"value", List::new(alloc))
 }
 
 // `()`
-fn no_arguments(alloc: Global, symbols: &Symbols) -> Suffix
-    requires knows { KnowsNames symbols.now }
-    ensures { suffix_view symbols.now result ≡ spec.arguments_suffix [] }
+fn no_arguments(alloc: Global) -> Suffix
+    ensures { suffix_view result ≡ spec.arguments_suffix [] }
 {
-    arguments(symbols, List::new(alloc))
+    arguments(List::new(alloc))
 }
 
 // `.value().string()`
-fn shown(alloc: Global, symbols: &Symbols) -> Result<List<Suffix>, AllocError>
-    requires knows { KnowsNames symbols.now }
-    ensures { IfOk result (λ ss. map (suffix_view symbols.now) ss ≡ spec.dot (codes "value") ∷ spec.arguments_suffix [] ∷ spec.dot (codes "string") ∷ spec.arguments_suffix [] ∷ []) }
+fn shown(alloc: Global) -> Result<List<Suffix>, AllocError>
+    ensures { IfOk result (λ ss. map suffix_view ss ≡ spec.dot (codes "value") ∷ spec.arguments_suffix [] ∷ spec.dot (codes "string") ∷ spec.arguments_suffix [] ∷ []) }
 {
-    let value = dot(symbols, b"value");
-    let string = dot(symbols, b"string");
-    let first = no_arguments(alloc, symbols);
-    let second = no_arguments(alloc, symbols);
+    let value = dot(alloc, b"value")?;
+    let string = dot(alloc, b"string")?;
+    let first = no_arguments(alloc);
+    let second = no_arguments(alloc);
     let suffixes = vec![in alloc; value, first, string, second]?;
     Ok(List::from_vec(suffixes))
 }
 
 /// `out.print(x.value().string())`
-pub fn tell(alloc: Global, symbols: &Symbols, name: &[u8]) -> Result<Expr, AllocError>
-    requires has_name { Has symbols.now name.now }
-    requires knows { KnowsNames symbols.now }
-    ensures { IfOk result (λ e. expr_view symbols.now e ≡ spec.tell name.now) }
+pub fn tell(alloc: Global, name: &[u8]) -> Result<Expr, AllocError>
+    ensures { IfOk result (λ e. expr_view e ≡ spec.tell name.now) }
 {
-    let suffixes = shown(alloc, symbols)?;
-    let head = variable(symbols, name);
-    let text = chained(alloc, symbols, head, suffixes)?;
+    let suffixes = shown(alloc)?;
+    let head = variable(alloc, name)?;
+    let text = chained(alloc, head, suffixes)?;
     let args = one(alloc, text)?;
-    call(alloc, symbols, b"out", b"print", args)
+    call(alloc, b"out", b"print", args)
 }
 
 // `c.value() > k`
-fn holds_more(alloc: Global, symbols: &Symbols, addend: u64) -> Result<Seq, AllocError>
-    requires knows { KnowsNames symbols.now }
-    ensures { IfOk result (λ seq. seq_view symbols.now seq ≡ spec.alone (spec.operator_expression op.Gt (spec.value_expression (codes "c")) (spec.number addend))) }
+fn holds_more(alloc: Global, addend: u64) -> Result<Seq, AllocError>
+    ensures { IfOk result (λ seq. seq_view seq ≡ spec.alone (spec.operator_expression op.Gt (spec.value_expression (codes "c")) (spec.number addend))) }
 {
-    let held = value(alloc, symbols, b"c")?;
-    let more = operation(alloc, symbols, Op::Gt, held, number(addend))?;
-    alone(alloc, symbols, more)
+    let held = value(alloc, b"c")?;
+    let more = operation(alloc, Op::Gt, held, number(addend))?;
+    alone(alloc, more)
 }
 
 // `c.add(n)`, alone
-fn adding(alloc: Global, symbols: &Symbols, addend: u64) -> Result<Seq, AllocError>
-    requires knows { KnowsNames symbols.now }
-    ensures { IfOk result (λ seq. seq_view symbols.now seq ≡ spec.alone (spec.add_expression (codes "c") (spec.number addend))) }
+fn adding(alloc: Global, addend: u64) -> Result<Seq, AllocError>
+    ensures { IfOk result (λ seq. seq_view seq ≡ spec.alone (spec.add_expression (codes "c") (spec.number addend))) }
 {
-    let adds = add(alloc, symbols, b"c", number(addend))?;
-    alone(alloc, symbols, adds)
+    let adds = add(alloc, b"c", number(addend))?;
+    alone(alloc, adds)
 }
 
 // `if c.value() > k then c.add(1) else c.add(k) end`
-fn compare(alloc: Global, symbols: &Symbols, addend: u64) -> Result<Expr, AllocError>
-    requires knows { KnowsNames symbols.now }
-    ensures { IfOk result (λ e. expr_view symbols.now e ≡ spec.compare addend) }
+fn compare(alloc: Global, addend: u64) -> Result<Expr, AllocError>
+    ensures { IfOk result (λ e. expr_view e ≡ spec.compare addend) }
 {
-    let cond = holds_more(alloc, symbols, addend)?;
-    let body = adding(alloc, symbols, 1)?;
-    let other = adding(alloc, symbols, addend)?;
-    choice(alloc, symbols, cond, body, other)
+    let cond = holds_more(alloc, addend)?;
+    let body = adding(alloc, 1)?;
+    let other = adding(alloc, addend)?;
+    choice(alloc, cond, body, other)
 }
 
 // `t + n`
-fn turn_and(alloc: Global, symbols: &Symbols, addend: u64) -> Result<Expr, AllocError>
-    requires knows { KnowsNames symbols.now }
-    ensures { IfOk result (λ e. expr_view symbols.now e ≡ spec.turn_and addend) }
+fn turn_and(alloc: Global, addend: u64) -> Result<Expr, AllocError>
+    ensures { IfOk result (λ e. expr_view e ≡ spec.turn_and addend) }
 {
-    let turn = variable(symbols, b"t");
-    operation(alloc, symbols, Op::Add, turn, number(addend))
+    let turn = variable(alloc, b"t")?;
+    operation(alloc, Op::Add, turn, number(addend))
 }
 
 // `c.add(t + k); t = t + 1`
-fn one_turn(alloc: Global, symbols: &Symbols, addend: u64) -> Result<List<Item>, AllocError>
-    requires knows { KnowsNames symbols.now }
-    ensures { IfOk result (λ items. map (item_view symbols.now) items ≡ t.plain (spec.add_expression (codes "c") (spec.turn_and addend)) ∷ t.plain (spec.assign_expression (codes "t") (spec.turn_and 1)) ∷ []) }
+fn one_turn(alloc: Global, addend: u64) -> Result<List<Item>, AllocError>
+    ensures { IfOk result (λ items. map item_view items ≡ t.plain (spec.add_expression (codes "c") (spec.turn_and addend)) ∷ t.plain (spec.assign_expression (codes "t") (spec.turn_and 1)) ∷ []) }
 {
-    let amount = turn_and(alloc, symbols, addend)?;
-    let adds = add(alloc, symbols, b"c", amount)?;
+    let amount = turn_and(alloc, addend)?;
+    let adds = add(alloc, b"c", amount)?;
     let mut items = one(alloc, Item::Plain(adds))?;
-    let next = turn_and(alloc, symbols, 1)?;
-    let counts = assigned(alloc, symbols, b"t", next)?;
+    let next = turn_and(alloc, 1)?;
+    let counts = assigned(alloc, b"t", next)?;
     items.push(Item::Plain(counts))?;
     Ok(items)
 }
 
 // `while t < 3 do c.add(t + k); t = t + 1 end`
-fn repeat(alloc: Global, symbols: &Symbols, addend: u64) -> Result<Expr, AllocError>
-    requires knows { KnowsNames symbols.now }
-    ensures { IfOk result (λ e. expr_view symbols.now e ≡ spec.repeat addend) }
+fn repeat(alloc: Global, addend: u64) -> Result<Expr, AllocError>
+    ensures { IfOk result (λ e. expr_view e ≡ spec.repeat addend) }
 {
-    let turn = variable(symbols, b"t");
-    let below = operation(alloc, symbols, Op::Lt, turn, number(3))?;
-    let cond = alone(alloc, symbols, below)?;
-    let items = one_turn(alloc, symbols, addend)?;
-    turns(alloc, symbols, cond, sequence(symbols, items))
+    let turn = variable(alloc, b"t")?;
+    let below = operation(alloc, Op::Lt, turn, number(3))?;
+    let cond = alone(alloc, below)?;
+    let items = one_turn(alloc, addend)?;
+    turns(alloc, cond, sequence(items))
 }
 
 /// An expression after other items.
 pub fn push_plain(items: &mut List<Item>, expression: Expr) -> Result<(), AllocError>
-    ensures { OnOk result (map (item_view symbols.now) items.new ≡ map (item_view symbols.now) items.old ++ t.plain (expr_view symbols.now expression) ∷ []) }
+    ensures { OnOk result (map item_view items.new ≡ map item_view items.old ++ t.plain (expr_view expression) ∷ []) }
 {
     items.push(Item::Plain(expression))
 }
 
 // `let x: T = e` after other items, or `var` in place of `let`
 fn push_local(
-    symbols: &Symbols,
     items: &mut List<Item>,
     fixed: bool,
     typed: ParamDef,
     value: Expr,
 ) -> Result<(), AllocError>
-    requires knows { KnowsNames symbols.now }
-    ensures { OnOk result (map (item_view symbols.now) items.new ≡ map (item_view symbols.now) items.old ++ t.local fixed typed.name (Some typed.ty) (expr_view symbols.now value) spec.without_place ∷ []) }
+    ensures { OnOk result (map item_view items.new ≡ map item_view items.old ++ t.local fixed typed.name (Some typed.ty) (expr_view value) spec.without_place ∷ []) }
 {
-    items.push(local(symbols, fixed, typed, value))
+    items.push(local(fixed, typed, value))
 }
 
 // `e.add(v)`
-fn add_held(alloc: Global, symbols: &Symbols) -> Result<Expr, AllocError>
-    requires knows { KnowsNames symbols.now }
-    ensures { IfOk result (λ e. expr_view symbols.now e ≡ spec.add_expression (codes "e") (spec.variable_expression (codes "v"))) }
+fn add_held(alloc: Global) -> Result<Expr, AllocError>
+    ensures { IfOk result (λ e. expr_view e ≡ spec.add_expression (codes "e") (spec.variable_expression (codes "v"))) }
 {
-    let amount = variable(symbols, b"v");
-    add(alloc, symbols, b"e", amount)
+    let amount = variable(alloc, b"v")?;
+    add(alloc, b"e", amount)
 }
 
 // `let e: Cell ref = Cell; e.add(v)`, after other items
-fn push_copy(alloc: Global, symbols: &Symbols, items: &mut List<Item>) -> Result<(), AllocError>
-    requires knows { KnowsNames symbols.now }
-    ensures { OnOk result (map (item_view symbols.now) items.new ≡ map (item_view symbols.now) items.old ++ spec.local true (codes "e") (spec.type_reference (codes "Cell") (Some cap.Ref)) (spec.type_expression (codes "Cell")) ∷ t.plain (spec.add_expression (codes "e") (spec.variable_expression (codes "v"))) ∷ []) }
+fn push_copy(alloc: Global, items: &mut List<Item>) -> Result<(), AllocError>
+    ensures { OnOk result (map item_view items.new ≡ map item_view items.old ++ spec.local true (codes "e") (spec.type_reference (codes "Cell") (Some cap.Ref)) (spec.type_expression (codes "Cell")) ∷ t.plain (spec.add_expression (codes "e") (spec.variable_expression (codes "v"))) ∷ []) }
 {
-    let typed = param(symbols, b"e", b"Cell", Some(Cap::Ref));
-    let made = entity(symbols, b"Cell");
-    push_local(symbols, items, true, typed, made)?;
-    let adds = add_held(alloc, symbols)?;
+    let typed = param(alloc, b"e", b"Cell", Some(Cap::Ref))?;
+    let made = entity(alloc, b"Cell")?;
+    push_local(items, true, typed, made)?;
+    let adds = add_held(alloc)?;
     push_plain(items, adds)
 }
 
 // `recover val let e: Cell ref = Cell; e.add(v); e end`
-fn freeze(alloc: Global, symbols: &Symbols) -> Result<Expr, AllocError>
-    requires knows { KnowsNames symbols.now }
-    ensures { IfOk result (λ e. expr_view symbols.now e ≡ spec.freeze) }
+fn freeze(alloc: Global) -> Result<Expr, AllocError>
+    ensures { IfOk result (λ e. expr_view e ≡ spec.freeze) }
 {
     let mut items = List::new(alloc);
-    push_copy(alloc, symbols, &mut items)?;
-    let last = variable(symbols, b"e");
+    push_copy(alloc, &mut items)?;
+    let last = variable(alloc, b"e")?;
     push_plain(&mut items, last)?;
-    recovered(alloc, symbols, Cap::Val, sequence(symbols, items))
+    recovered(alloc, Cap::Val, sequence(items))
 }
 
 // `var t: U64 = 0` and the loop
-fn push_repeat(
-    alloc: Global,
-    symbols: &Symbols,
-    items: &mut List<Item>,
-    addend: u64,
-) -> Result<(), AllocError>
-    requires knows { KnowsNames symbols.now }
-    ensures { OnOk result (map (item_view symbols.now) items.new ≡ map (item_view symbols.now) items.old ++ spec.repeat_items addend) }
+fn push_repeat(alloc: Global, items: &mut List<Item>, addend: u64) -> Result<(), AllocError>
+    ensures { OnOk result (map item_view items.new ≡ map item_view items.old ++ spec.repeat_items addend) }
 {
-    let typed = param(symbols, b"t", b"U64", None);
-    push_local(symbols, items, false, typed, number(0))?;
-    let turns = repeat(alloc, symbols, addend)?;
+    let typed = param(alloc, b"t", b"U64", None)?;
+    push_local(items, false, typed, number(0))?;
+    let turns = repeat(alloc, addend)?;
     push_plain(items, turns)
 }
 
 // `let d: Cell val = recover .. end`, `out.print(d.value().string())`
-fn push_frozen(alloc: Global, symbols: &Symbols, items: &mut List<Item>) -> Result<(), AllocError>
-    requires knows { KnowsNames symbols.now }
-    ensures { OnOk result (map (item_view symbols.now) items.new ≡ map (item_view symbols.now) items.old ++ spec.frozen_items) }
+fn push_frozen(alloc: Global, items: &mut List<Item>) -> Result<(), AllocError>
+    ensures { OnOk result (map item_view items.new ≡ map item_view items.old ++ spec.frozen_items) }
 {
-    let typed = param(symbols, b"d", b"Cell", Some(Cap::Val));
-    let frozen = freeze(alloc, symbols)?;
-    push_local(symbols, items, true, typed, frozen)?;
-    let told = tell(alloc, symbols, b"d")?;
+    let typed = param(alloc, b"d", b"Cell", Some(Cap::Val))?;
+    let frozen = freeze(alloc)?;
+    push_local(items, true, typed, frozen)?;
+    let told = tell(alloc, b"d")?;
     push_plain(items, told)
 }
 
 // `c.add(k)`, `let v: U64 = c.value()`, and a frozen copy of the cell's content
-fn push_freeze(
-    alloc: Global,
-    symbols: &Symbols,
-    items: &mut List<Item>,
-    addend: u64,
-) -> Result<(), AllocError>
-    requires knows { KnowsNames symbols.now }
-    ensures { OnOk result (map (item_view symbols.now) items.new ≡ map (item_view symbols.now) items.old ++ spec.freeze_items addend) }
+fn push_freeze(alloc: Global, items: &mut List<Item>, addend: u64) -> Result<(), AllocError>
+    ensures { OnOk result (map item_view items.new ≡ map item_view items.old ++ spec.freeze_items addend) }
 {
-    let adds = add(alloc, symbols, b"c", number(addend))?;
+    let adds = add(alloc, b"c", number(addend))?;
     push_plain(items, adds)?;
-    let typed = param(symbols, b"v", b"U64", None);
-    let held = value(alloc, symbols, b"c")?;
-    push_local(symbols, items, true, typed, held)?;
-    push_frozen(alloc, symbols, items)
+    let typed = param(alloc, b"v", b"U64", None)?;
+    let held = value(alloc, b"c")?;
+    push_local(items, true, typed, held)?;
+    push_frozen(alloc, items)
 }
 
 /// The items of a task with this number.
 pub fn push_task(
     alloc: Global,
-    symbols: &Symbols,
     items: &mut List<Item>,
     task: Task,
     addend: u64,
 ) -> Result<(), AllocError>
-    requires knows { KnowsNames symbols.now }
-    ensures { OnOk result (map (item_view symbols.now) items.new ≡ map (item_view symbols.now) items.old ++ spec.task_items task addend) }
+    ensures { OnOk result (map item_view items.new ≡ map item_view items.old ++ spec.task_items task addend) }
 {
     match task {
         Task::Add => {
-            let adds = add(alloc, symbols, b"c", number(addend))?;
+            let adds = add(alloc, b"c", number(addend))?;
             push_plain(items, adds)
         }
         Task::Compare => {
-            let compares = compare(alloc, symbols, addend)?;
+            let compares = compare(alloc, addend)?;
             push_plain(items, compares)
         }
-        Task::Repeat => push_repeat(alloc, symbols, items, addend),
-        Task::Freeze => push_freeze(alloc, symbols, items, addend),
+        Task::Repeat => push_repeat(alloc, items, addend),
+        Task::Freeze => push_freeze(alloc, items, addend),
     }
 }

@@ -11,7 +11,6 @@
 
 mod bodies;
 mod laws;
-mod names;
 mod parts;
 mod program;
 mod schedule;

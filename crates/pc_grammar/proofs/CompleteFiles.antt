@@ -1,7 +1,7 @@
 -- Entities and files that are spelled are read.
 use Rattle.std.proofs.Common.{◌≡◌, ℕ, zero, suc, ◌≤◌, max, Bool, true, false, List, [], ◌∷◌, ◌++◌, length, Some, None, Ok, refl, sym, ap, ◌∙◌, subst, arith, cond, append_assoc, length-append, ◌⊎◌, inl, inr}
 use Rattle.pc_tree.specs.Tree as t
-use Rattle.pc_tree.specs.{Depths.file_depth, Levels.{fields_depth, methods_depth, entities_depth}, Tree.Name, declared.kinds.EntityKind.EntityKind, Kinds.{may_have_cap, may_have_fields, FieldsIf}}
+use Rattle.pc_tree.specs.{Depths.file_depth, Levels.{fields_depth, methods_depth, entities_depth}, declared.written_names.Name.Name, declared.kinds.EntityKind.EntityKind, Kinds.{may_have_cap, may_have_fields, FieldsIf}}
 use Rattle.pc_tree.specs.declared.kinds.Op.TheVariants as o
 use Rattle.pc_tree.specs.declared.kinds.EntityKind.TheVariants as kind
 use Rattle.pc_token.specs.{declared.kinds.Token.Token, Words.{is_sign, is_word, same_sign, same_word}}

@@ -1,7 +1,7 @@
 -- Terms, operators and assignments are explained if what is inside is.
 use Rattle.std.proofs.Common.{◌≡◌, ℕ, suc, ◌-◌, ◌<◌, Bool, true, false, ◌&&◌, List, [], ◌∷◌, ◌++◌, length, Option, Some, None, refl, sym, ap, ◌∙◌, subst, arith, cond, rules, ◌⊎◌, inl, inr}
 use denote.Enum.Bare.{same_true}
-use Rattle.pc_tree.specs.{contracts.kinds.Op.the_type as op_type, declared.kinds.Op.Op, Tree.Name, Depths.{depth, exprs_depth}, Parts.exprs_of}
+use Rattle.pc_tree.specs.{contracts.kinds.Op.the_type as op_type, declared.kinds.Op.Op, declared.written_names.Name.Name, Depths.{depth, exprs_depth}, Parts.exprs_of}
 use Rattle.pc_tree.specs.Tree as t
 use Rattle.pc_token.specs.{declared.kinds.Token.Token, Words.{is_sign, is_word}}
 use Rattle.pc_token.specs.declared.words.Word.TheVariants as w

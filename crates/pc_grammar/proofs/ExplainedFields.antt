@@ -1,7 +1,7 @@
 -- Fields are explained.
 use Rattle.std.proofs.Common.{◌≡◌, ℕ, suc, Bool, true, false, List, [], ◌∷◌, ◌++◌, Option, Some, None, refl, sym, ap, ◌∙◌, subst, arith, cond}
 use Rattle.pc_tree.specs.Tree as t
-use Rattle.pc_tree.specs.{Depths.depth, Levels.{value_depth, fields_depth}, Tree.{Name, TypeRef}, declared.kinds.EntityKind.EntityKind, Kinds.{may_have_fields, FieldsIf}}
+use Rattle.pc_tree.specs.{Depths.depth, Levels.{value_depth, fields_depth}, declared.written_names.Name.Name, declared.written_names.TypeRef.TypeRef, declared.kinds.EntityKind.EntityKind, Kinds.{may_have_fields, FieldsIf}}
 use Rattle.pc_token.specs.{declared.kinds.Token.Token, Words.{is_sign, is_word}}
 use Rattle.pc_token.specs.declared.kinds.TokenKind.TheVariants as k
 use Rattle.pc_token.specs.declared.words.Word.TheVariants as w

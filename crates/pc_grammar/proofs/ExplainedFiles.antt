@@ -2,7 +2,7 @@
 use Rattle.std.proofs.Common.{◌≡◌, ℕ, suc, max, Bool, true, false, List, [], ◌∷◌, ◌++◌, Option, Some, refl, sym, ap, ap₂, ◌∙◌, subst, cond, append_assoc, ◌⊎◌, inl, inr}
 use Rattle.pc_caps.specs.declared.capability.Cap.{Cap}
 use Rattle.pc_tree.specs.Tree as t
-use Rattle.pc_tree.specs.{Depths.file_depth, Levels.{fields_depth, methods_depth, entities_depth}, Tree.Name, declared.kinds.EntityKind.EntityKind, Kinds.may_have_cap}
+use Rattle.pc_tree.specs.{Depths.file_depth, Levels.{fields_depth, methods_depth, entities_depth}, declared.written_names.Name.Name, declared.kinds.EntityKind.EntityKind, Kinds.may_have_cap}
 use Rattle.pc_tree.specs.declared.kinds.EntityKind.TheVariants as kind
 use Rattle.pc_token.specs.{declared.kinds.Token.Token, declared.kinds.TokenKind.TokenKind, Words.{is_sign, is_word}}
 use Rattle.pc_token.specs.declared.kinds.TokenKind.TheVariants as k

@@ -3,7 +3,7 @@ use Rattle.std.proofs.Common.{◌≡◌, ℕ, Bool, true, false, List, [], ◌�
 use denote.Enum.Bare.{same_false, sameb}
 use Rattle.pc_caps.specs.declared.capability.Cap.{Cap}
 use Rattle.pc_tree.specs.Tree as t
-use Rattle.pc_tree.specs.{Depths.{depth, exprs_depth, suffix_depth, arm_depth, other_depth, seq_depth, item_depth}, Tree.{Name, TypeRef}}
+use Rattle.pc_tree.specs.{Depths.{depth, exprs_depth, suffix_depth, arm_depth, other_depth, seq_depth, item_depth}, declared.written_names.Name.Name, declared.written_names.TypeRef.TypeRef}
 use Rattle.pc_token.specs.{contracts.words.Word.the_type as word_type, contracts.signs.Sign.the_type as sign_type, declared.kinds.Token.Token, declared.kinds.TokenKind.TokenKind, declared.words.Word.Word, declared.signs.Sign.Sign, Words.{is_sign, is_word, same_sign, same_word}}
 use Rattle.pc_token.specs.declared.kinds.TokenKind.TheVariants as k
 use Rattle.pc_token.specs.declared.signs.Sign.TheVariants as s

@@ -1,6 +1,6 @@
 -- Items and sequences are explained if what is inside is.
 use Rattle.std.proofs.Common.{◌≡◌, ℕ, zero, suc, ◌-◌, Bool, true, false, ◌&&◌, List, [], ◌∷◌, ◌++◌, length, Option, Some, None, Ok, Err, refl, sym, ap, ◌∙◌, subst, arith, cond, append_assoc, ◌⊎◌, inl, inr}
-use Rattle.pc_tree.specs.{Tree.{Name, TypeRef}, Depths.{item_depth, items_depth}, Parts.items_of}
+use Rattle.pc_tree.specs.{declared.written_names.Name.Name, declared.written_names.TypeRef.TypeRef, Depths.{item_depth, items_depth}, Parts.items_of}
 use Rattle.pc_tree.specs.Tree as t
 use Rattle.pc_token.specs.{declared.kinds.Token.Token, Words.{is_sign, is_word}}
 use Rattle.pc_token.specs.declared.kinds.TokenKind.TheVariants as k

@@ -2,7 +2,7 @@
 use Rattle.std.specs.Prelude.{ℕ, zero, suc, Bool, true, false, not, ◌&&◌, ◌||◌, List, [], ◌∷◌, length, Option, Some, None, Result, Ok, Err, if◌then◌else◌}
 use Rattle.pc_base.specs.declared.span.Span.{Span}
 use Rattle.pc_caps.specs.declared.capability.Cap.{Cap}
-use Rattle.pc_tree.specs.{Tree.{Name, TypeRef}, declared.kinds.Op.Op, Parts.{exprs_of, suffixes_of, arms_of, items_of, suffix_span, arm_span, seq_span, item_span}}
+use Rattle.pc_tree.specs.{declared.written_names.Name.Name, declared.written_names.TypeRef.TypeRef, declared.kinds.Op.Op, Parts.{exprs_of, suffixes_of, arms_of, items_of, suffix_span, arm_span, seq_span, item_span}}
 use Rattle.pc_token.specs.{declared.kinds.Token.Token, declared.kinds.TokenKind.TokenKind, declared.words.Word.Word, Words.{is_sign, is_word}}
 use Rattle.pc_grammar.specs.{Spells.{op_of, cap_of, local_word, no_span, span_from_to, is_place}, Parts.same_op}
 use Rattle.pc_tree.specs.Tree as t

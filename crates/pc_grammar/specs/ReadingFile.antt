@@ -1,7 +1,7 @@
 -- How a file is read from the left, with one token of lookahead.
 use Rattle.std.specs.Prelude.{ℕ, Bool, true, false, ◌||◌, List, [], ◌∷◌, Option, Some, None, if◌then◌else◌}
 use Rattle.pc_caps.specs.declared.capability.Cap.{Cap}
-use Rattle.pc_tree.specs.{Tree.{Name, TypeRef, ParamDef}, declared.kinds.EntityKind.EntityKind, declared.kinds.MethodWord.MethodWord, Kinds.{is_abstract, may_have_cap, may_have_fields, may_stand, may_have_method_cap}}
+use Rattle.pc_tree.specs.{declared.written_names.Name.Name, declared.written_names.TypeRef.TypeRef, declared.file.ParamDef.ParamDef, declared.kinds.EntityKind.EntityKind, declared.kinds.MethodWord.MethodWord, Kinds.{is_abstract, may_have_cap, may_have_fields, may_stand, may_have_method_cap}}
 use Rattle.pc_token.specs.{declared.kinds.Token.Token, declared.kinds.TokenKind.TokenKind, Words.{is_sign, is_word}}
 use Rattle.pc_grammar.specs.{Spells.{local_word, method_word, entity_word}, Reading.{Parser, ◌>>=◌, ◌>>◌, pure, refuse, peek, take_if, take_any, all, after, at, name, type_name, maybe_cap, written_type, seq, infix_}}
 use Rattle.pc_tree.specs.Tree as t

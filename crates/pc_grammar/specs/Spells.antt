@@ -27,7 +27,7 @@
 use Rattle.std.specs.Prelude.{Bool, true, false, Option, Some, None, if◌then◌else◌, ◌≡◌, List, [], ◌∷◌, ◌++◌, ℕ, nat_le, ◌≤◌, ◌⊎◌}
 use Rattle.pc_base.specs.declared.span.Span.{Span}
 use Rattle.pc_caps.specs.declared.capability.Cap.{Cap}
-use Rattle.pc_tree.specs.{declared.kinds.Op.Op, Tree.{Name, TypeRef, ParamDef}, Depths.file_depth, declared.kinds.EntityKind.EntityKind, declared.kinds.MethodWord.MethodWord, Kinds.{may_have_cap, may_stand, may_have_method_cap, CapIf, at_kind, FieldsIf, BodyUnless, may_have_fields, is_abstract}}
+use Rattle.pc_tree.specs.{declared.kinds.Op.Op, declared.written_names.Name.Name, declared.written_names.TypeRef.TypeRef, Depths.file_depth, declared.file.ParamDef.ParamDef, declared.kinds.EntityKind.EntityKind, declared.kinds.MethodWord.MethodWord, Kinds.{may_have_cap, may_stand, may_have_method_cap, CapIf, at_kind, FieldsIf, BodyUnless, may_have_fields, is_abstract}}
 use Rattle.pc_token.specs.{declared.kinds.Token.Token, declared.kinds.TokenKind.TokenKind, declared.words.Word.Word, Words.{is_sign, is_word}}
 use Rattle.pc_caps.specs.declared.capability.Cap.TheVariants as c
 use Rattle.pc_tree.specs.declared.kinds.Op.TheVariants as o

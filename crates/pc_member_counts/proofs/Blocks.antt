@@ -4,7 +4,7 @@ use Rattle.std.specs.{Prelude.{slice_get, option_to_list}, Str.bytes_eq}
 use Rattle.pc_masks.specs.{declared.mask.Mask.Mask, Masks.{has, join}}
 use Rattle.pc_base.specs.Lists.{Has, Differ, Text}
 use Rattle.pc_base.proofs.Elements.{has_on}
-use Rattle.pc_tree.specs.{declared.kinds.EntityKind.EntityKind, Tree.Name, Kinds.{is_abstract, first_own}}
+use Rattle.pc_tree.specs.{declared.kinds.EntityKind.EntityKind, declared.written_names.Name.Name, Kinds.{is_abstract, first_own}}
 use Rattle.pc_tree.specs.Tree as t
 use Rattle.pc_members.specs.{Members.{method_texts, entity_names, IsTransitiveClosure, is_takable}, Founded.IsFounded, Edges.entity_numbers, MemberLists.{of_each, trait_methods, abstract_methods}, Parts.of_entity}
 use Rattle.pc_members.proofs.Ranks.{Target, steady, rank_few}

@@ -3,7 +3,7 @@ use Rattle.std.proofs.{Common.{◌≡◌, ℕ, zero, suc, List, [], ◌∷◌, �
 use Rattle.std.specs.Prelude.{slice_get, Option, None}
 use Rattle.pc_base.specs.Lists.{Has, Differ, Text}
 use Rattle.pc_base.proofs.{Elements.{differ_none, has_on, has_either}, Gets.get_map}
-use Rattle.pc_tree.specs.Tree.{Name}
+use Rattle.pc_tree.specs.declared.written_names.Name.{Name}
 use Rattle.pc_tree.specs.Tree as t
 use Rattle.pc_members.specs.{MemberLists.{is_among, with_names, firsts, entity_named, of_each, trait_methods}, Parts.of_entity, Members.method_texts}
 use Rattle.pc_members.proofs.{Differences.{names_differ, among_has, has_among}, Completed.{among_parts, names_known}, Named.named_is}

@@ -3,7 +3,7 @@ use Rattle.std.proofs.{Common.{◌≡◌, ℕ, ◌+◌, ◌-◌, ◌<◌, ◌^�
 use Rattle.std.specs.Prelude.{slice_get, slice_set, replicate, Some}
 use Rattle.pc_tree.specs.Tree as t
 use Rattle.pc_base.specs.Lists.{Text}
-use Rattle.pc_member_counts.specs.{declared.block.Block.Block, declared.listing.Listing.Listing, Plans.{NamePlan, Plans}, Blocks.nothing, Windows.{trait_block, placed, filled_at, filled}, Fresh.with_fresh, Totals.got, Numbers.method_names}
+use Rattle.pc_member_counts.specs.{declared.block.Block.Block, declared.listing.Listing.Listing, declared.plan.Plan.Plan, Blocks.nothing, Plans.Plans, Windows.{trait_block, placed, filled_at, filled}, Fresh.with_fresh, Totals.got, Numbers.method_names}
 use Rattle.pc_member_counts.proofs.{Covers.method_names_differ, Windows.window_counted, Totals.got_few}
 
 -- ---- one place
@@ -18,15 +18,15 @@ placed_is start es ls i e l table now new b he hl same is set =
 
 -- ---- one window
 
-abbrev CountsWindow : t.File → ℕ → NamePlan → Type 0
+abbrev CountsWindow : t.File → ℕ → Plan → Type 0
 CountsWindow file start plan =
     with_fresh start (min (length plan.names - start) 64) (filled start file.entities plan.listings plan.order (replicate (length file.entities) nothing)) 0 file.entities plan.listings (map (got file.entities (take start plan.names)) file.entities)
     ≡ map (got file.entities (take (start + 64) plan.names)) file.entities
 
-plan_counts : (file : t.File) (plan : NamePlan) (start : ℕ) → Plans file plan → CountsWindow file start plan
+plan_counts : (file : t.File) (plan : Plan) (start : ℕ) → Plans file plan → CountsWindow file start plan
 plan_counts file plan start p = subst (CountsWindow file start) (sym p.3) (window_counted file p.0 p.1 p.2 (method_names [] file.entities) (method_names_differ file.entities) start)
 
-pub window_is : (file : t.File) (plan : NamePlan) → Plans file plan → (start len n count : ℕ) (ls : List Listing) (order : List ℕ) (now table : List Block) (counts : List ℕ)
+pub window_is : (file : t.File) (plan : Plan) → Plans file plan → (start len n count : ℕ) (ls : List Listing) (order : List ℕ) (now table : List Block) (counts : List ℕ)
     → ls ≡ plan.listings → order ≡ plan.order → count ≡ length file.entities → len ≡ length plan.names → n ≡ min (len - start) 64 → now ≡ table → table ≡ filled start file.entities ls order (replicate count nothing)
     → counts ≡ map (got file.entities (take start plan.names)) file.entities
     → with_fresh start n now 0 file.entities ls counts ≡ map (got file.entities (take (start + 64) plan.names)) file.entities

@@ -5,4 +5,3 @@ pub mod Windows
 pub mod Fresh
 pub mod Plans
 pub mod Totals
-pub mod PlanView

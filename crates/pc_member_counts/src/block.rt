@@ -5,7 +5,6 @@ ghost use Rattle.pc_members.specs.Members.{is_takable as takes_over};
 ghost use Rattle.pc_member_counts.specs.Blocks as spec;
 
 use pc_masks::Mask;
-use pc_symbols::Symbols;
 use pc_tree::{EntityKind, MethodDef};
 
 /// For each of 64 names, the properties of the first method with the name in a list of methods.
@@ -35,14 +34,14 @@ impl Block {
     }
 
     /// The block of one method, whose name is at this place.
-    pub(crate) fn single(symbols: &Symbols, place: u32, method: &MethodDef) -> Block
-        ensures { result ≡ spec.single place (method_view symbols.now method.now) }
+    pub(crate) fn single(place: u32, method: &MethodDef) -> Block
+        ensures { result ≡ spec.single place (method_view method.now) }
     {
         Block {
             absent: Mask::first(64).without(place),
-            class: alone_if(is_takable(symbols, EntityKind::Class, method), place),
-            actor: alone_if(is_takable(symbols, EntityKind::Actor, method), place),
-            primitive: alone_if(is_takable(symbols, EntityKind::Primitive, method), place),
+            class: alone_if(is_takable(EntityKind::Class, method), place),
+            actor: alone_if(is_takable(EntityKind::Actor, method), place),
+            primitive: alone_if(is_takable(EntityKind::Primitive, method), place),
         }
     }
 
@@ -79,8 +78,8 @@ fn alone_if(there: bool, number: u32) -> Mask
 }
 
 // Whether an entity of this kind takes the method over if its name is new.
-fn is_takable(symbols: &Symbols, kind: EntityKind, method: &MethodDef) -> bool
-    ensures { result ≡ takes_over kind (method_view symbols.now method.now) }
+fn is_takable(kind: EntityKind, method: &MethodDef) -> bool
+    ensures { result ≡ takes_over kind (method_view method.now) }
 {
     method.body.is_some() && kind.may_hold(method.word)
 }

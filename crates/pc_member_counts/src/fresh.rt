@@ -10,7 +10,6 @@ use crate::listing::Listing;
 use crate::window::{block_at, is_within};
 use pc_base::List;
 use pc_masks::Mask;
-use pc_symbols::Symbols;
 use pc_tree::{Entity, EntityKind};
 use std::alloc::{AllocError, Global};
 
@@ -76,7 +75,6 @@ fn own_place(table: &[Block], place: usize) -> Block
 
 // How many of the names the entity at this place gets.
 fn count_fresh(
-    symbols: &Symbols,
     start: u32,
     count: u32,
     table: &[Block],
@@ -84,7 +82,7 @@ fn count_fresh(
     entity: &Entity,
     listing: &Listing,
 ) -> u32
-    ensures { result ≡ spec.count_fresh start count table.now place (entity_view symbols.now entity.now) listing.now }
+    ensures { result ≡ spec.count_fresh start count table.now place (entity_view entity.now) listing.now }
 {
     if entity.kind.is_abstract() {
         count_present(own_place(table, place), count)
@@ -96,7 +94,6 @@ fn count_fresh(
 /// The counts of these entities, increased for `count` more names from this number on.
 pub(crate) fn add_fresh(
     alloc: Global,
-    symbols: &Symbols,
     start: u32,
     count: u32,
     table: &[Block],
@@ -107,13 +104,13 @@ pub(crate) fn add_fresh(
     requires listed { length listings.now ≡ length all.now }
     requires counted { length counts.now ≡ length all.now }
     requires few { All (λ c. c < 2 ^ 32) counts.now }
-    ensures { IfOk result (λ l. l ≡ spec.with_fresh start count table.now 0 (map (entity_view symbols.now) all.now) listings.now counts.now) }
+    ensures { IfOk result (λ l. l ≡ spec.with_fresh start count table.now 0 (map entity_view all.now) listings.now counts.now) }
 {
     let mut sums = List::new(alloc);
     for place in 0..all.len() {
         let entity = &all[place];
         let listing = &listings[place];
-        let fresh = count_fresh(symbols, start, count, table, place, entity, listing);
+        let fresh = count_fresh(start, count, table, place, entity, listing);
         sums.push(counts[place] + fresh as usize)?;
     }
     Ok(sums)

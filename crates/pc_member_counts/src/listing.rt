@@ -1,6 +1,5 @@
 //! The names of each entity, by their numbers.
 ghost use Rattle.std.specs.Prelude.{◌≡◌, ◌++◌, map, IfOk, OnOk};
-ghost use Rattle.pc_symbols.specs.Spellings.{texts};
 ghost use Rattle.pc_tree.specs.View.{entity_view};
 ghost use Rattle.pc_members.specs.Parts.{added_text};
 ghost use Rattle.pc_members.specs.Members as words;
@@ -8,9 +7,7 @@ ghost use Rattle.pc_member_counts.specs.Numbers as spec;
 
 use crate::numbers::{number_fields, number_in, number_methods};
 use pc_base::List;
-use pc_members::{has_added, number_names};
-use pc_symbols::words::CREATE;
-use pc_symbols::{SymbolTable, Symbols};
+use pc_members::{NameTable, has_added, number_names};
 use pc_tree::Entity;
 use std::alloc::{AllocError, Global};
 
@@ -27,15 +24,14 @@ pub(crate) struct Listing {
 
 // Appends the number of an added `create`.
 fn add_created(
-    symbols: &Symbols,
-    names: &SymbolTable,
+    names: &NameTable,
     numbers: &mut List<u32>,
     entity: &Entity,
 ) -> Result<(), AllocError>
-    ensures { OnOk result (numbers.new ≡ numbers.old ++ spec.numbers_in (texts symbols.now names.now) (added_text (words.has_added (entity_view symbols.now entity.now)))) }
+    ensures { OnOk result (numbers.new ≡ numbers.old ++ spec.numbers_in names.now (added_text (words.has_added (entity_view entity.now)))) }
 {
-    if has_added(symbols, entity) {
-        numbers.push(number_in(symbols, names, symbols.word(CREATE)))
+    if has_added(entity) {
+        numbers.push(number_in(names, b"create"))
     } else {
         Ok(())
     }
@@ -44,17 +40,16 @@ fn add_created(
 // The names of one entity.
 fn list_entity(
     alloc: Global,
-    symbols: &Symbols,
-    entities: &SymbolTable,
-    names: &SymbolTable,
+    entities: &NameTable,
+    names: &NameTable,
     entity: &Entity,
 ) -> Result<Listing, AllocError>
-    ensures { IfOk result (λ l. l ≡ spec.listing (texts symbols.now entities.now) (texts symbols.now names.now) (entity_view symbols.now entity.now)) }
+    ensures { IfOk result (λ l. l ≡ spec.listing entities.now names.now (entity_view entity.now)) }
 {
-    let methods = number_methods(alloc, symbols, names, entity.methods.as_slice())?;
-    let mut others = number_fields(alloc, symbols, names, entity.fields.as_slice())?;
-    add_created(symbols, names, &mut others, entity)?;
-    let targets = number_names(alloc, symbols, entities, entity.provides.as_slice())?;
+    let methods = number_methods(alloc, names, entity.methods.as_slice())?;
+    let mut others = number_fields(alloc, names, entity.fields.as_slice())?;
+    add_created(names, &mut others, entity)?;
+    let targets = number_names(alloc, entities, entity.provides.as_slice())?;
     Ok(Listing {
         methods,
         others,
@@ -65,16 +60,15 @@ fn list_entity(
 /// The names of each of these entities, given the names of all entities and those of their methods.
 pub(crate) fn list_entities(
     alloc: Global,
-    symbols: &Symbols,
-    entities: &SymbolTable,
-    names: &SymbolTable,
+    entities: &NameTable,
+    names: &NameTable,
     all: &[Entity],
 ) -> Result<List<Listing>, AllocError>
-    ensures { IfOk result (λ l. l ≡ map (spec.listing (texts symbols.now entities.now) (texts symbols.now names.now)) (map (entity_view symbols.now) all.now)) }
+    ensures { IfOk result (λ l. l ≡ map (spec.listing entities.now names.now) (map entity_view all.now)) }
 {
     let mut listings = List::new(alloc);
     for entity in all {
-        listings.push(list_entity(alloc, symbols, entities, names, entity)?)?;
+        listings.push(list_entity(alloc, entities, names, entity)?)?;
     }
     Ok(listings)
 }

@@ -1,13 +1,12 @@
 //! The blocks of all traits and interfaces for 64 names, from one number on.
 ghost use Rattle.std.specs.Prelude.{◌≡◌, map, length, replicate, slice_set, IfOk};
-ghost use Rattle.pc_tree.specs.View.{method_view, entity_view};
+ghost use Rattle.pc_tree.specs.View.{entity_view, method_view};
 ghost use Rattle.pc_member_counts.specs.Blocks.{nothing};
 ghost use Rattle.pc_member_counts.specs.Windows as spec;
 
 use crate::block::Block;
 use crate::listing::Listing;
 use pc_base::List;
-use pc_symbols::Symbols;
 use pc_tree::{Entity, FIRST_OWN, MethodDef};
 use std::alloc::{AllocError, Global};
 
@@ -22,25 +21,25 @@ pub(crate) fn is_within(start: u32, number: u32) -> bool
 }
 
 // The block followed by the method whose name has this number.
-fn with_own(symbols: &Symbols, start: u32, block: Block, number: u32, method: &MethodDef) -> Block
-    ensures { result ≡ spec.with_own start block number (method_view symbols.now method.now) }
+fn with_own(start: u32, block: Block, number: u32, method: &MethodDef) -> Block
+    ensures { result ≡ spec.with_own start block number (method_view method.now) }
 {
     if is_within(start, number) {
-        block.followed(Block::single(symbols, number - start, method))
+        block.followed(Block::single(number - start, method))
     } else {
         block
     }
 }
 
 // The block of these methods, whose names have these numbers.
-fn own_block(symbols: &Symbols, start: u32, numbers: &[u32], methods: &[MethodDef]) -> Block
+fn own_block(start: u32, numbers: &[u32], methods: &[MethodDef]) -> Block
     requires { length numbers.now ≡ length methods.now }
-    ensures { result ≡ spec.own_block start nothing numbers.now (map (method_view symbols.now) methods.now) }
+    ensures { result ≡ spec.own_block start nothing numbers.now (map method_view methods.now) }
 {
     let mut block = Block::nothing();
     for at in 0..methods.len() {
         let method = &methods[at];
-        block = with_own(symbols, start, block, numbers[at], method);
+        block = with_own(start, block, numbers[at], method);
     }
     block
 }
@@ -67,22 +66,11 @@ fn with_named(table: &[Block], own: Block, targets: &[u32]) -> Block
 }
 
 // The block of a trait or an interface.
-fn trait_block(
-    symbols: &Symbols,
-    start: u32,
-    table: &[Block],
-    entity: &Entity,
-    listing: &Listing,
-) -> Block
+fn trait_block(start: u32, table: &[Block], entity: &Entity, listing: &Listing) -> Block
     requires { length listing.now.methods ≡ length entity.now.methods }
-    ensures { result ≡ spec.trait_block start table.now (entity_view symbols.now entity.now) listing.now }
+    ensures { result ≡ spec.trait_block start table.now (entity_view entity.now) listing.now }
 {
-    let own = own_block(
-        symbols,
-        start,
-        listing.methods.as_slice(),
-        entity.methods.as_slice(),
-    );
+    let own = own_block(start, listing.methods.as_slice(), entity.methods.as_slice());
     with_named(table, own, listing.targets.as_slice())
 }
 
@@ -109,15 +97,14 @@ fn list_nothing(alloc: Global, count: usize) -> Result<List<Block>, AllocError>
 
 // If there is an entity at this place, puts its block into the table.
 fn fill_place(
-    symbols: &Symbols,
     start: u32,
     all: &[Entity],
     listings: &[Listing],
     table: &mut List<Block>,
     place: usize,
 )
-    requires { spec.ArePaired (map (entity_view symbols.now) all.now) listings.now }
-    ensures { table.new ≡ spec.filled_at start (map (entity_view symbols.now) all.now) listings.now table.old place }
+    requires { spec.ArePaired (map entity_view all.now) listings.now }
+    ensures { table.new ≡ spec.filled_at start (map entity_view all.now) listings.now table.old place }
 {
     let Some(entity) = all.get(place) else {
         return;
@@ -125,7 +112,7 @@ fn fill_place(
     let Some(listing) = listings.get(place) else {
         return;
     };
-    let block = trait_block(symbols, start, table.as_slice(), entity, listing);
+    let block = trait_block(start, table.as_slice(), entity, listing);
     put(table, place, block);
 }
 
@@ -133,18 +120,17 @@ fn fill_place(
 /// number on.
 pub(crate) fn list_blocks(
     alloc: Global,
-    symbols: &Symbols,
     start: u32,
     all: &[Entity],
     listings: &[Listing],
     order: &[usize],
 ) -> Result<List<Block>, AllocError>
-    requires { spec.ArePaired (map (entity_view symbols.now) all.now) listings.now }
-    ensures { IfOk result (λ l. l ≡ spec.filled start (map (entity_view symbols.now) all.now) listings.now order.now (replicate (length all.now) nothing)) }
+    requires { spec.ArePaired (map entity_view all.now) listings.now }
+    ensures { IfOk result (λ l. l ≡ spec.filled start (map entity_view all.now) listings.now order.now (replicate (length all.now) nothing)) }
 {
     let mut table = list_nothing(alloc, all.len())?;
     for place in order {
-        fill_place(symbols, start, all, listings, &mut table, *place);
+        fill_place(start, all, listings, &mut table, *place);
     }
     Ok(table)
 }

@@ -2,7 +2,7 @@
 use Rattle.std.proofs.{Common.{◌≡◌, ℕ, zero, suc, ◌+◌, List, [], ◌∷◌, ◌++◌, map, length, Option, Some, None, refl, sym, ap, ◌∙◌, subst, arith, inl, inr, ⊎_elim}, lemmas.Option.{same_Some, none-some}, lemmas.List.length-map, lemmas.List.Quantifiers.position-Some}
 use Rattle.std.specs.{Prelude.{slice_get, option_to_list, position}, Str.bytes_eq}
 use Rattle.pc_base.specs.Lists.{Has, IsIn, Text}
-use Rattle.pc_tree.specs.{Tree.Name, Kinds.first_own}
+use Rattle.pc_tree.specs.{declared.written_names.Name.Name, Kinds.first_own}
 use Rattle.pc_tree.specs.Tree as t
 use Rattle.pc_members.specs.{Members.{entity_names, ProvidesInFile, LeadsInFile, one, more, IsAbove, IsTransitiveClosure}, Parts.or_nil, Edges.{edges_from, EdgePath, link, links, reached, ascending, above_all, entity_numbers, own_edges, edges_of}}
 use Rattle.pc_members.proofs.Reached.{Within, above_length, above_get, ascending_ascends, listed_led, led_listed}

@@ -1,6 +1,6 @@
 -- The first member with each name, and what is taken over, part by part.
 use Rattle.std.proofs.Common.{◌≡◌, List, [], ◌∷◌, ◌++◌, Bool, true, false, refl, sym, ap, ◌∙◌, append_assoc, if◌then◌else◌}
-use Rattle.pc_tree.specs.{declared.kinds.EntityKind.EntityKind, Tree.Name}
+use Rattle.pc_tree.specs.{declared.kinds.EntityKind.EntityKind, declared.written_names.Name.Name}
 use Rattle.pc_base.specs.Lists.{Text}
 use Rattle.pc_members.specs.{MemberLists.{is_among, with_names}, Parts.find_name, Members.{Member, member_text}, Rounds.{first_members, member_texts, taken_members, with_taken, is_taken, named_all, table_members}}
 

@@ -1,3 +1,4 @@
+pub mod Views
 pub mod Tables
 pub mod Differences
 pub mod Named

@@ -4,7 +4,7 @@ use Rattle.std.proofs.{Common.{◌≡◌, ℕ, zero, suc, ◌+◌, ◌-◌, ◌<
 use Rattle.std.specs.{Prelude.{slice_get, replicate, position}, List.position_from, Str.bytes_eq}
 use Rattle.indexmap.proofs.IndexTableLemmas.Probe.{pigeonhole}
 use Rattle.pc_base.proofs.{Gets.{get_below, get_within, get_append, get_map, map_get}, Bools.true_false, Elements.has_on}
-use Rattle.pc_tree.specs.{Tree.Name, Kinds.{is_abstract, first_own}}
+use Rattle.pc_tree.specs.{declared.written_names.Name.Name, Kinds.{is_abstract, first_own}}
 use Rattle.pc_tree.specs.Tree as t
 use Rattle.pc_base.specs.Lists.{Has, Differ, Ascends, Text}
 use Rattle.pc_members.specs.{MemberLists.{is_among, firsts, entity_named, of_each, trait_methods, abstract_methods}, Parts.{find_name, or_no_members, of_entity, or_nil}, Members.{built_in_names, texts_of, entity_names, entity_at, ProvidesInFile, LeadsInFile, one, more, IsAbove, IsTransitiveClosure, Member, written}, Founded.IsFounded, Rounds.{first_members, named_all, table_members, gathered, methods_written}}

@@ -2,7 +2,7 @@
 use Rattle.std.specs.{Prelude.{ℕ, zero, suc, ◌+◌, Bool, true, false, List, [], ◌∷◌, ◌++◌, length, Option, Some, None, slice_get, nat_eq, if◌then◌else◌, replicate, option_to_list, position, unwrap_or}, Str.bytes_eq}
 use Rattle.pc_base.specs.Lists.{IsIn, Text}
 use Rattle.pc_members.specs.Members.{entity_names}
-use Rattle.pc_tree.specs.{Tree.Name, Kinds.first_own}
+use Rattle.pc_tree.specs.{declared.written_names.Name.Name, Kinds.first_own}
 use Rattle.pc_tree.specs.Tree as t
 
 -- ---- what can be reached along edges, each number once, in the order in which it is found

@@ -1,7 +1,7 @@
 -- When the `is` lists of a file are right.
 use Rattle.std.specs.Prelude.{ℕ}
 use Rattle.pc_base.specs.Lists.{Has, Differ}
-use Rattle.pc_tree.specs.Tree.{Name}
+use Rattle.pc_tree.specs.declared.written_names.Name.{Name}
 use Rattle.pc_members.specs.{Members.{entity_names, InCycle}, MemberLists.trait_names}
 use Rattle.pc_tree.specs.Tree as t
 

@@ -4,5 +4,6 @@ pub mod MemberLists
 pub mod Members
 pub mod Views
 pub mod Rounds
+pub mod Numbered
 pub mod Marks
 pub mod Parts

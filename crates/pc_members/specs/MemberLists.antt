@@ -1,7 +1,7 @@
 -- The members of an entity in the order of their numbers, each list made from those of the entities above it.
 use Rattle.std.specs.{Prelude.{ℕ, List, [], ◌∷◌, ◌++◌, Option, if◌then◌else◌, zero, suc, ◌&&◌, not, map, length, Some, None, Bool, true}, Str.bytes_eq, List.list_any, Option.option_map_or}
 use Rattle.pc_base.specs.{Lists.{Text, one_if}, declared.span.Span.Span}
-use Rattle.pc_tree.specs.{Kinds.is_abstract, declared.kinds.EntityKind.EntityKind, Tree.Name}
+use Rattle.pc_tree.specs.{Kinds.is_abstract, declared.kinds.EntityKind.EntityKind, declared.written_names.Name.Name}
 use Rattle.pc_members.specs.Members.{has_added, Member, written, added, without_body, own_texts, is_takable, is_new}
 use Rattle.pc_tree.specs.Tree as t
 

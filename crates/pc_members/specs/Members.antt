@@ -2,7 +2,7 @@
 -- takes over; and what they rest on: names, the numbers of entities, and chains of `is`.
 use Rattle.std.specs.{Prelude.{ℕ, Bool, true, false, List, [], ◌∷◌, ◌++◌, map, Option, position, codes, if◌then◌else◌, Some, None, ◌≡◌, ◌↔◌, ◌+◌, length, slice_get, replicate, ◌&&◌, is_some}, List.list_any, Str.bytes_eq}
 use Rattle.pc_base.specs.Lists.{Text, Each, Has, Ascends, one_if}
-use Rattle.pc_tree.specs.{declared.kinds.MethodWord.MethodWord, Kinds.{may_stand, is_abstract, first_own}, Tree.Name, declared.kinds.EntityKind.EntityKind}
+use Rattle.pc_tree.specs.{declared.kinds.MethodWord.MethodWord, Kinds.{may_stand, is_abstract, first_own}, declared.written_names.Name.Name, declared.kinds.EntityKind.EntityKind}
 use Rattle.pc_tree.specs.declared.kinds.MethodWord.TheVariants as word
 use Rattle.pc_tree.specs.Tree as t
 

@@ -2,7 +2,7 @@
 -- those it names, and then from these the members of each entity.
 -- ---- the methods of traits and interfaces
 use Rattle.std.specs.Prelude.{◌≡◌, ◌⊎◌, ◌&&◌, ◌<◌, Bool, true, false, not, ℕ, ◌-◌, ◌+◌, List, [], ◌∷◌, ◌++◌, map, drop, length, Option, Some, None, slice_get, if◌then◌else◌}
-use Rattle.pc_tree.specs.{declared.kinds.EntityKind.EntityKind, Tree.Name, Kinds.{is_abstract, first_own}}
+use Rattle.pc_tree.specs.{declared.kinds.EntityKind.EntityKind, declared.written_names.Name.Name, Kinds.{is_abstract, first_own}}
 use Rattle.pc_base.specs.Lists.{Text}
 use Rattle.pc_members.specs.{MemberLists.{is_among, with_names, abstract_methods}, Parts.{find_name, or_no_members, or_nil, added_if}, Members.{has_added, IsTransitiveClosure, Member, member_text, written, added, without_body, is_takable, own_texts}}
 use Rattle.pc_tree.specs.Tree as t

@@ -2,10 +2,9 @@
 ghost use Rattle.std.specs.Prelude.{◌≡◌, map};
 ghost use Rattle.std.specs.List.{list_any};
 ghost use Rattle.pc_tree.specs.Tree as tree;
-ghost use Rattle.pc_tree.specs.View.{method_view, entity_view};
+ghost use Rattle.pc_tree.specs.View.{entity_view, method_view};
 ghost use Rattle.pc_members.specs.Members as spec;
 
-use pc_symbols::Symbols;
 use pc_tree::{Entity, MethodDef, MethodWord};
 
 /// Whether the keyword is `new`.
@@ -16,8 +15,8 @@ pub fn is_new(word: MethodWord) -> bool
 }
 
 // Whether one of the methods is a constructor.
-fn has_constructor(symbols: &Symbols, methods: &[MethodDef]) -> bool
-    ensures { result ≡ list_any (λ (m : tree.Method). spec.is_new m.word) (map (method_view symbols.now) methods.now) }
+fn has_constructor(methods: &[MethodDef]) -> bool
+    ensures { result ≡ list_any (λ (m : tree.Method). spec.is_new m.word) (map method_view methods.now) }
 {
     for method in methods {
         if is_new(method.word) {
@@ -28,10 +27,10 @@ fn has_constructor(symbols: &Symbols, methods: &[MethodDef]) -> bool
 }
 
 /// Whether the constructor `create` is added to the entity: it is a class or an actor without a constructor.
-pub fn has_added(symbols: &Symbols, entity: &Entity) -> bool
-    ensures { result ≡ spec.has_added (entity_view symbols.now entity.now) }
+pub fn has_added(entity: &Entity) -> bool
+    ensures { result ≡ spec.has_added (entity_view entity.now) }
 {
-    if has_constructor(symbols, entity.methods.as_slice()) {
+    if has_constructor(entity.methods.as_slice()) {
         false
     } else {
         entity.kind.may_hold(MethodWord::New)

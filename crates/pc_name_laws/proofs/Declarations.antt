@@ -3,7 +3,7 @@ use Rattle.std.proofs.{Common.{◌≡◌, ℕ, zero, suc, ◌+◌, ◌<◌, ◌�
 use Rattle.std.specs.Prelude.{◌⊎◌, slice_get, nat_lt, codes}
 use Rattle.pc_base.specs.{Limits.field_limit, Lists.{Has, Text}}
 use Rattle.pc_base.proofs.{Bools.{true_false, false_true}, Elements.{has_front, has_behind, has_either}, Gets.{get_take, take_get}}
-use Rattle.pc_tree.specs.{Tree.{ParamDef, Name, TypeRef}, Kinds.is_abstract}
+use Rattle.pc_tree.specs.{declared.file.ParamDef.ParamDef, declared.written_names.Name.Name, declared.written_names.TypeRef.TypeRef, Kinds.is_abstract}
 use Rattle.pc_tree.specs.Tree as t
 use Rattle.pc_names.specs.{declared.fault.NameFault.NameFault, Faults.either_fault, Parts.where_}
 use Rattle.pc_names.specs.declared.fault.NameFault.TheVariants as fault

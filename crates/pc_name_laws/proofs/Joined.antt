@@ -3,7 +3,7 @@ use Rattle.std.proofs.{Common.{◌≡◌, ℕ, suc, ◌+◌, ◌*◌, ◌<◌, �
 use Rattle.std.specs.Prelude.{slice_get, Result, Ok, Err}
 use Rattle.pc_base.specs.{Lists.Has, Limits.node_limit}
 use Rattle.pc_base.proofs.Gets.{get_below, take_get}
-use Rattle.pc_tree.specs.{Tree.Name, Kinds.{is_abstract, first_own}}
+use Rattle.pc_tree.specs.{declared.written_names.Name.Name, Kinds.{is_abstract, first_own}}
 use Rattle.pc_tree.specs.Tree as t
 use Rattle.pc_core.specs.{declared.nodes.Node.Node, CoreData.CoreData}
 use Rattle.pc_names.specs.{declared.fault.NameFault.NameFault, Faults.{entity_name_faults, declaration_faults, cycle_faults, count_faults, main_faults, NamesData, Collected, name_faults, IsNotMemory}, Parts.{where_, built_in_and_member_texts, above_faults}, Laws.fault_start}

@@ -4,7 +4,7 @@ use Rattle.std.specs.Prelude.{slice_get}
 use Rattle.pc_base.specs.Lists.{Has, Ascends}
 use Rattle.pc_base.proofs.{Elements.{has_on, has_front, has_behind}, Gets.{get_below, get_front, get_append, get_map}}
 use Rattle.pc_tree.specs.Tree as t
-use Rattle.pc_tree.specs.Tree.{Name, TypeRef, ParamDef}
+use Rattle.pc_tree.specs.{declared.written_names.Name.Name, declared.written_names.TypeRef.TypeRef, declared.file.ParamDef.ParamDef}
 use Rattle.pc_token.specs.declared.kinds.Token.{Token}
 use Rattle.pc_grammar.specs.{Spells.{SpellsEntities, SpellsFile}, Parts.SpellsMoreEntities}
 use Rattle.pc_names.specs.{declared.fault.NameFault.NameFault, Laws.{fault_start, name_start, result_places, field_places, param_places, method_places, declared_places}}

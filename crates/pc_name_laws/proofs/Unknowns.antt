@@ -2,7 +2,7 @@
 use Rattle.std.proofs.{Common.{◌≡◌, refl, sym, ap, ◌∙◌, subst, inl, inr, arith}, lemmas.Option.{same_Some, none-some}}
 use Rattle.std.specs.Prelude.{Option, Some, None}
 use Rattle.pc_base.specs.declared.span.Span.{Span}
-use Rattle.pc_tree.specs.Tree.{Name}
+use Rattle.pc_tree.specs.declared.written_names.Name.{Name}
 use Rattle.pc_tree.specs.Tree as t
 use Rattle.pc_text_order.proofs.Tokens.{tokens_ascend}
 use Rattle.pc_names.specs.{declared.fault.NameFault.NameFault, Laws.fault_start}

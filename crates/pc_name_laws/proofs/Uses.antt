@@ -3,7 +3,7 @@ use Rattle.std.proofs.{Common.{◌≡◌, ℕ, ◌<◌, List, [], ◌∷◌, len
 use Rattle.std.specs.Prelude.{nat_lt}
 use Rattle.pc_base.specs.{Lists.{Has, Text}, declared.span.Span.Span}
 use Rattle.pc_base.proofs.Bools.{false_true}
-use Rattle.pc_tree.specs.Tree.{Name, TypeRef}
+use Rattle.pc_tree.specs.{declared.written_names.Name.Name, declared.written_names.TypeRef.TypeRef}
 use Rattle.pc_body_spec.specs.{Bodies.{Context, Scope, KnownEntity, Meaning, local, field, method, nothing, member, unless_local, slot_named, resolve, is_among_names, TypeMeaning, primitive, created, no_value, type_meaning, constructor_named, Start, with_method, with_type, with_value, start_with_name, create_name}, Faults.{BodyNameFault, unknown, double, long_text, is_name_taken, is_entity, bare_name_faults, type_name_faults, Next, arguments, name, end, start_faults, dot_faults}, Parts.{fault_if, unless_some, written_faults}, Places.written_places}
 use Rattle.pc_name_laws.specs.Uses as u
 use Rattle.pc_name_laws.specs.{Uses.{Here, BehindDot, TypeIn, spot}, Missing.{IsCreated, IsPrimitive, HasConstructor, Means, IsAtFault}}

@@ -3,7 +3,7 @@ use Rattle.std.proofs.{Common.{◌≡◌, ℕ, zero, suc, List, [], ◌∷◌, �
 use Rattle.std.specs.Prelude.{◌⊎◌}
 use Rattle.pc_base.specs.Lists.{Has}
 use Rattle.pc_base.proofs.Elements.{has_on}
-use Rattle.pc_tree.specs.{Tree.{Name, ParamDef}, declared.kinds.MethodWord.MethodWord}
+use Rattle.pc_tree.specs.{declared.written_names.Name.Name, declared.file.ParamDef.ParamDef, declared.kinds.MethodWord.MethodWord}
 use Rattle.pc_tree.specs.declared.kinds.MethodWord.TheVariants as word
 use Rattle.pc_tree.specs.Tree as t
 use Rattle.pc_body_spec.specs.{Bodies.{Context, Scope, Visible, defined_local, resolve, primitive, created, no_value, scope_after, params_from, params_scope, initial_fields, Start, with_method, with_type, with_value, chain_start}, Faults.{BodyNameFault, double, is_name_taken, Next, end, next_of, start_faults, faults_of, exprs_faults, suffixes_faults, arms_faults, arm_faults, other_faults, seq_faults, items_faults, item_faults, initial_faults}, Parts.{fault_if, written_faults, value_faults, written_body_faults}, Places.{written_places, places, exprs_places, suffixes_places, arm_places, arms_places, other_places, seq_places, items_places, item_places, value_places, initial_places, written_body_places, body_places}}

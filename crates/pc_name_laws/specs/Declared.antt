@@ -1,7 +1,7 @@
 -- The faults that the names and declarations of a file's entities can have.
 use Rattle.std.specs.Prelude.{◌≡◌, ◌⊎◌, ℕ, ◌<◌, ◌≤◌, true, List, map, Some, slice_get, codes}
 use Rattle.pc_base.specs.{Limits.{entity_limit, field_limit}, Lists.{Has, Text}}
-use Rattle.pc_tree.specs.{Tree.{ParamDef, Name, TypeRef}, Kinds.is_abstract}
+use Rattle.pc_tree.specs.{declared.file.ParamDef.ParamDef, declared.written_names.Name.Name, declared.written_names.TypeRef.TypeRef, Kinds.is_abstract}
 use Rattle.pc_names.specs.declared.fault.NameFault.{NameFault}
 use Rattle.pc_members.specs.Members.{built_in_names, entity_names, texts_of, has_added, field_texts, method_texts}
 use Rattle.pc_name_laws.specs.Uses.{param_texts}

@@ -1,7 +1,7 @@
 -- Which fault of a file is reported.
 use Rattle.std.specs.Prelude.{◌≡◌, ◌⊎◌, ◌↔◌, ℕ, List, slice_get, Some}
 use Rattle.pc_base.specs.{Lists.{Has, Ascends}, declared.span.Span.Span}
-use Rattle.pc_tree.specs.Tree.{Name}
+use Rattle.pc_tree.specs.declared.written_names.Name.{Name}
 use Rattle.pc_token.specs.declared.kinds.Token.{Token}
 use Rattle.pc_lex.specs.Pieces.{Tokens}
 use Rattle.pc_grammar.specs.Spells.{SpellsFile}

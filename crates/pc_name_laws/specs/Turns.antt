@@ -2,7 +2,7 @@
 -- their turns: the body of a member, its slots, and its nodes.
 use Rattle.std.specs.Prelude.{◌≡◌, ◌⊎◌, ℕ, suc, ◌+◌, ◌*◌, ◌<◌, ◌≤◌, false, List, [], ◌∷◌, take, Option, Some, None, slice_get, codes, ◌-◌}
 use Rattle.pc_base.specs.{Limits.{method_limit, node_limit, slot_limit}, Lists.Has}
-use Rattle.pc_tree.specs.{Tree.Name, Kinds.first_own}
+use Rattle.pc_tree.specs.{declared.written_names.Name.Name, Kinds.first_own}
 use Rattle.pc_names.specs.{declared.fault.NameFault.NameFault, Parts.method_count, Mains.is_main, Laws.fault_start}
 use Rattle.pc_members.specs.{Members.{texts_of, InCycle, entity_at, Member, written, added}, MemberLists.member_span}
 use Rattle.pc_body_spec.specs.{Bodies.{Rose, body_of, added_body, Context}, Slots.initial_locals, Methods.{slot_names, local_names}, Faults.BodyNameFault}

@@ -1,7 +1,7 @@
 -- What a body uses, and what is visible there.
 use Rattle.std.specs.Prelude.{◌≡◌, ◌⊎◌, ℕ, List, [], ◌∷◌, ◌++◌, map, Option, Some, None}
 use Rattle.pc_base.specs.{Lists.{Has, Text}, declared.span.Span.Span}
-use Rattle.pc_tree.specs.Tree.{Name, TypeRef, ParamDef}
+use Rattle.pc_tree.specs.{declared.written_names.Name.Name, declared.written_names.TypeRef.TypeRef, declared.file.ParamDef.ParamDef}
 use Rattle.pc_body_spec.specs.Faults.{Next, end, next_of}
 use Rattle.pc_members.specs.Members.{Member, written, added}
 use Rattle.pc_tree.specs.declared.kinds.MethodWord.TheVariants as word

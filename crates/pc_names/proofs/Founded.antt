@@ -1,7 +1,7 @@
 -- The members can be listed for a file whose names and declarations have no fault, and which has no cycle.
 use Rattle.std.proofs.{Common.{◌≡◌, ℕ, zero, suc, ◌+◌, ◌<◌, ◌≤◌, List, [], ◌∷◌, ◌++◌, length, Bool, true, false, not, refl, sym, subst, arith, append-nil}, lemmas.Bool.{ltb-true, not-false}, lemmas.Option.{same_Some, none-some}, lemmas.List.{length_push, append_assoc}}
 use Rattle.std.specs.Prelude.{nat_lt, drop}
-use Rattle.pc_tree.specs.{Tree.Name, Kinds.first_own}
+use Rattle.pc_tree.specs.{declared.written_names.Name.Name, Kinds.first_own}
 use Rattle.pc_tree.specs.Tree as t
 use Rattle.pc_base.specs.Lists.{Has, Differ, Text}
 use Rattle.pc_base.proofs.{Elements.differ_none, Cuts.{nil_left, nil_right}}

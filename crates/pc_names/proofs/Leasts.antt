@@ -2,7 +2,7 @@
 use Rattle.std.proofs.{Common.{◌≡◌, ℕ, zero, suc, ◌≤◌, ◌<◌, Bool, true, false, not, ◌||◌, List, [], ◌∷◌, ◌++◌, map, length, Option, Some, None, refl, sym, ap, ◌∙◌, subst, arith}, lemmas.Option.{same_Some, none-some}}
 use Rattle.std.specs.Prelude.{slice_get, nat_lt, codes, ◌&&◌}
 use Rattle.pc_base.specs.{Limits.field_limit, Lists.{Has, Ascends, Text}}
-use Rattle.pc_tree.specs.Tree.{ParamDef, Name, TypeRef}
+use Rattle.pc_tree.specs.{declared.file.ParamDef.ParamDef, declared.written_names.Name.Name, declared.written_names.TypeRef.TypeRef}
 use Rattle.pc_tree.specs.Tree as t
 use Rattle.pc_names.specs.{declared.fault.NameFault.NameFault, Faults.either_fault, Parts.where_, Laws.{FirstIsLeast, fault_start, name_start, result_places, field_places, param_places, method_places, declared_places}}
 use Rattle.pc_names.specs.declared.fault.NameFault.TheVariants as fault

@@ -52,16 +52,16 @@ own_faults file lists e = ap (λ ls. above_faults file.entities (drop first_own 
 pub own_lengths : (f : File) (above own : List (List ℕ)) → IsTransitiveClosure (file_view f) above → own ≡ drop first_own above
     → length own ≡ length f.entities
 own_lengths f above own c e =
-    let l : length above ≡ first_own + length (map (entity_view f.symbols) f.entities) = c.0 in
-    let m = length-map f.entities (entity_view f.symbols) in
+    let l : length above ≡ first_own + length (map entity_view f.entities) = c.0 in
+    let m = length-map f.entities entity_view in
     let d : length own ≡ length above - first_own = ap length e ∙ length-drop first_own above in
     omega (arith, l, m, d)
 
 pub own_few : (f : File) (above : List (List ℕ)) → IsTransitiveClosure (file_view f) above → first_own ≤ length above
-own_few f above c = let l : length above ≡ first_own + length (map (entity_view f.symbols) f.entities) = c.0 in omega (arith, l)
+own_few f above c = let l : length above ≡ first_own + length (map entity_view f.entities) = c.0 in omega (arith, l)
 
 pub edges_few : (f : File) (edges : List (List ℕ)) → first_own + length f.entities < 2 ^ 32 → edges ≡ edges_of (file_view f) → length edges < 2 ^ 32
 edges_few f edges few e =
-    let l : length edges ≡ first_own + length (map (entity_view f.symbols) f.entities) = ap length e ∙ edges_length (file_view f) in
-    let m = length-map f.entities (entity_view f.symbols) in
+    let l : length edges ≡ first_own + length (map entity_view f.entities) = ap length e ∙ edges_length (file_view f) in
+    let m = length-map f.entities entity_view in
     omega (arith, few, l, m)

@@ -3,7 +3,7 @@
 use Rattle.std.specs.{Prelude.{List, [], ◌∷◌, ◌++◌, codes, ◌≡◌, ℕ, Bool, true, false, ◌&&◌, ◌||◌, not, length, Some, slice_get, nat_lt, ◌+◌, drop, if◌then◌else◌, flat_map}, Str.bytes_eq, Option.option_map_or}
 use Rattle.pc_base.specs.{Lists.{Text, Differ, one_if}, Limits.{entity_limit, field_limit, method_limit}}
 use Rattle.pc_members.specs.{Members.{field_texts, method_texts, entity_names, has_added, built_in_names, IsTransitiveClosure}, MemberLists.{with_names, is_among, trait_names, members}, Edges.has_number}
-use Rattle.pc_tree.specs.{Tree.{ParamDef, Name, TypeRef}, Kinds.{first_own, is_abstract}}
+use Rattle.pc_tree.specs.{declared.file.ParamDef.ParamDef, declared.written_names.Name.Name, declared.written_names.TypeRef.TypeRef, Kinds.{first_own, is_abstract}}
 use Rattle.pc_names.specs.{declared.fault.NameFault.NameFault, Mains.is_main}
 use Rattle.pc_tree.specs.Tree as t
 use Rattle.pc_names.specs.declared.fault.NameFault.TheVariants as fault

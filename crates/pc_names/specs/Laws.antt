@@ -1,7 +1,7 @@
 -- Laws of the names of every file.
 use Rattle.std.specs.Prelude.{◌≡◌, ℕ, ◌≤◌, ◌<◌, List, [], ◌∷◌, ◌++◌, map, drop, Option, Some, None}
 use Rattle.pc_base.specs.Lists.{Has, Ascends, Text}
-use Rattle.pc_tree.specs.{Tree.{ParamDef, Name, TypeRef}, Kinds.first_own}
+use Rattle.pc_tree.specs.{declared.file.ParamDef.ParamDef, declared.written_names.Name.Name, declared.written_names.TypeRef.TypeRef, Kinds.first_own}
 use Rattle.pc_names.specs.{declared.fault.NameFault.NameFault, Faults.{IsFirstNameFault, entity_faults, cycle_faults, NamesData, Collected, IsNameFault, IsNotMemory}}
 use Rattle.pc_members.specs.Members.{IsTransitiveClosure, InCycle, entity_at}
 use Rattle.pc_tree.specs.Tree as t

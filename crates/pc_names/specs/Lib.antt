@@ -2,4 +2,3 @@ pub mod Faults
 pub mod Mains
 pub mod Laws
 pub mod Parts
-pub mod NameSymbols

@@ -1,7 +1,7 @@
 -- The entity Main, with which a program starts.
 use Rattle.std.specs.{Prelude.{Bool, true, false, ◌&&◌, List, [], ◌∷◌, Option, Some, None, codes}, List.list_any, Str.bytes_eq}
 use Rattle.pc_caps.specs.declared.capability.Cap.{Cap}
-use Rattle.pc_tree.specs.{Tree.{ParamDef, TypeRef}, declared.kinds.EntityKind.EntityKind, Kinds.at_kind}
+use Rattle.pc_tree.specs.{declared.file.ParamDef.ParamDef, declared.kinds.EntityKind.EntityKind, declared.written_names.TypeRef.TypeRef, Kinds.at_kind}
 use Rattle.pc_members.specs.Members.{is_new}
 use Rattle.pc_caps.specs.declared.capability.Cap.TheVariants as cap
 use Rattle.pc_tree.specs.Tree as t

@@ -2,7 +2,7 @@
 use Rattle.std.specs.{Prelude.{ℕ, ◌≡◌, ◌+◌, ◌++◌, ◌||◌, Bool, List, [], ◌∷◌, flat_map, length, Option, Result, Ok, Err, nat_lt}, Option.option_map_or}
 use Rattle.pc_base.specs.{Lists.{Text, one_if}, Limits.{entity_limit, method_limit}}
 use Rattle.pc_members.specs.{Members.{field_texts, method_texts}, MemberLists.{is_among, members, with_names}}
-use Rattle.pc_tree.specs.{Tree.TypeRef, Kinds.first_own}
+use Rattle.pc_tree.specs.{declared.written_names.TypeRef.TypeRef, Kinds.first_own}
 use Rattle.pc_names.specs.{declared.fault.NameFault.NameFault, Faults.{built_in_texts, with_members, IsFirstNameFault, type_faults, entity_faults, count_faults, main_faults, cycle_faults}}
 use Rattle.pc_tree.specs.Tree as t
 use Rattle.pc_names.specs.declared.fault.NameFault.TheVariants as fault

@@ -1,12 +1,10 @@
 //! The collected names of a file.
 ghost use Rattle.std.specs.Prelude.{◌≡◌, length, slice_get};
 ghost use Rattle.std.specs.Option.{option_copied};
-ghost use Rattle.pc_symbols.specs.Spellings.{text_of};
 ghost use Rattle.pc_members.specs.Parts.{find_name};
-ghost use Rattle.pc_names.specs.NameSymbols.{names_view};
 
 use pc_base::List;
-use pc_symbols::{Symbol, SymbolTable, Symbols};
+use pc_members::NameTable;
 use std::marker::Model;
 
 /// The names of a file: its entities by their numbers, the other texts, and which entities are above which.
@@ -14,22 +12,22 @@ use std::marker::Model;
 /// The six built-in entities have the numbers 0 to 5, the file's entities those from 6 on, in order.
 #[derive(Drop)]
 pub struct Names {
-    entities: SymbolTable,
-    texts: SymbolTable,
+    entities: NameTable,
+    texts: NameTable,
     above: List<List<u32>>,
 }
 
 impl Model for Names {
-    ghost use Rattle.pc_names.specs.NameSymbols.{NameSymbols};
+    ghost use Rattle.pc_names.specs.Faults.{NamesData};
 
-    ghost Value = { NameSymbols };
+    ghost Value = { NamesData };
 
     ghost view = { λ n. record { entities = n.entities; texts = n.texts; above = n.above } };
 }
 
 impl Names {
     /// The collected names, from their three parts.
-    pub(crate) fn of(entities: SymbolTable, texts: SymbolTable, above: List<List<u32>>) -> Names
+    pub(crate) fn of(entities: NameTable, texts: NameTable, above: List<List<u32>>) -> Names
         ensures { result ≡ record { entities = entities; texts = texts; above = above } }
     {
         Names {
@@ -40,17 +38,17 @@ impl Names {
     }
 
     /// The number of the entity with this name. `None` iff there is none. Does not allocate.
-    pub fn entity(&self, symbols: &Symbols, name: Symbol) -> Option<u32>
-        ensures { result ≡ find_name (names_view symbols.now self.now).entities (text_of symbols.now name.number) }
+    pub fn entity(&self, name: &[u8]) -> Option<u32>
+        ensures { result ≡ find_name self.now.entities name.now }
     {
-        self.entities.find(symbols, name)
+        self.entities.find(name)
     }
 
     /// The number of this text, which is not an entity's name. `None` iff it is not there. Does not allocate.
-    pub fn text(&self, symbols: &Symbols, name: Symbol) -> Option<u32>
-        ensures { result ≡ find_name (names_view symbols.now self.now).texts (text_of symbols.now name.number) }
+    pub fn text(&self, name: &[u8]) -> Option<u32>
+        ensures { result ≡ find_name self.now.texts name.now }
     {
-        self.texts.find(symbols, name)
+        self.texts.find(name)
     }
 
     /// The numbers of the entities to which a chain of `is` leads from the entity with this number, ascending. `None`
@@ -65,7 +63,7 @@ impl Names {
     }
 
     /// The names of all entities, in the order of their numbers.
-    pub fn entities(&self) -> &SymbolTable
+    pub fn entities(&self) -> &NameTable
         ensures { result.now ≡ self.now.entities }
     {
         &self.entities

@@ -8,7 +8,6 @@ ghost use Rattle.pc_members.specs.Edges as reach;
 
 use crate::fault::NameFault;
 use pc_base::List;
-use pc_symbols::Symbols;
 use pc_tree::Entity;
 
 // Whether the number is in the list.
@@ -32,14 +31,13 @@ fn is_in_cycle(entity: &Entity, above: &[u32], number: u32) -> bool
 
 /// No trait or interface among these entities, of which the first has this number, is above itself.
 pub(crate) fn check_cycles(
-    symbols: &Symbols,
     first: u32,
     entities: &[Entity],
     above: &[List<u32>],
 ) -> Result<(), NameFault>
     requires lists { length above.now ≡ length entities.now }
     requires numbers { first + length entities.now < 2 ^ 32 }
-    ensures { TellsFirst result (cycle_faults first (map (entity_view symbols.now) entities.now) above.now) }
+    ensures { TellsFirst result (cycle_faults first (map entity_view entities.now) above.now) }
 {
     for at in 0..entities.len() {
         let entity = &entities[at];

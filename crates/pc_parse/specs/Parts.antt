@@ -1,7 +1,7 @@
 -- The rules of the grammar of files in parts, with the levels of a file.
 use Rattle.std.specs.Prelude.{List, [], ◌∷◌, if◌then◌else◌}
 use Rattle.pc_grammar.specs.{Parts.inner_levels, Reading.{Parser, ◌>>=◌, ◌>>◌, pure, peek, take_if, all, after, at, type_name}, ReadingFile.{is_end, maybe_doc, param, begins_field, some_field, begins_method, some_method, begins_entity, entity}}
-use Rattle.pc_tree.specs.{Tree.{Name, ParamDef}, declared.kinds.EntityKind.EntityKind}
+use Rattle.pc_tree.specs.{declared.written_names.Name.Name, declared.file.ParamDef.ParamDef, declared.kinds.EntityKind.EntityKind}
 use Rattle.pc_token.specs.Words.{is_sign}
 use Rattle.pc_expr.specs.Onto.{onto}
 use Rattle.pc_tree.specs.Tree as t

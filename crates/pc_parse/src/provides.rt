@@ -1,32 +1,31 @@
 //! The type names after `is`.
-ghost use Rattle.std.specs.Prelude.{◌≤◌, drop, map, IfOk};
-ghost use Rattle.pc_tree.specs.View.{name_view};
+ghost use Rattle.std.specs.Prelude.{◌≤◌, drop, IfOk};
 ghost use Rattle.pc_grammar.specs.ReadingFile as rules;
-ghost use Rattle.pc_expr.specs.Gives.{StandsAtToken, Moves, GivesReading, Numbered};
+ghost use Rattle.pc_expr.specs.Gives.{StandsAtToken, Moves, GivesReading};
 ghost use Rattle.pc_parse.specs.Parts as parts;
 
 use crate::tokens::after_ampersand;
 use pc_base::List;
-use pc_expr::parsers::{ParseStop, Spelled, look, take_sign, take_word, type_name};
+use pc_expr::parsers::{ParseStop, look, take_sign, take_word, type_name};
 use pc_token::{Sign, Token, Word, is_sign, is_word};
 use pc_tree::Name;
+use std::alloc::Global;
 
 /// {"&" TypeName}, after some type names.
 fn more_type_names(
-    spelled: &Spelled,
+    alloc: Global,
     tokens: &[Token],
     at: usize,
     so_far: List<Name>,
 ) -> Result<(List<Name>, usize), ParseStop>
-    requires stands { StandsAtToken tokens.now at }
-    requires numbered { Numbered spelled.now.symbols.now spelled.now.numbers.now tokens.now }
-    ensures gives { GivesReading (map (name_view spelled.now.symbols.now)) tokens.now result (parts.more_type_names (map (name_view spelled.now.symbols.now) so_far) (drop at tokens.now)) }
+    requires { StandsAtToken tokens.now at }
+    ensures gives { GivesReading (λ m. m) tokens.now result (parts.more_type_names so_far (drop at tokens.now)) }
     ensures moves { IfOk result (λ r. (at ≤ r.1) × StandsAtToken tokens.now r.1) }
 {
     let mut names = so_far;
     let mut to = at;
     'more: while let Some(next) = after_ampersand(tokens, to) {
-        let (one, after) = type_name(spelled, tokens, next)?;
+        let (one, after) = type_name(alloc, tokens, next)?;
         names.push(one)?;
         to = after;
     }
@@ -35,57 +34,46 @@ fn more_type_names(
 
 /// TypeName {"&" TypeName}
 #[tactic(auto, using(crate::proofs::Parts::type_names_by_parts), unfolding(crate::specs::Parts::some_type_names))]
-fn type_names(
-    spelled: &Spelled,
-    tokens: &[Token],
-    at: usize,
-) -> Result<(List<Name>, usize), ParseStop>
-    requires stands { StandsAtToken tokens.now at }
-    requires numbered { Numbered spelled.now.symbols.now spelled.now.numbers.now tokens.now }
-    ensures gives { GivesReading (map (name_view spelled.now.symbols.now)) tokens.now result (rules.type_names (drop at tokens.now)) }
+fn type_names(alloc: Global, tokens: &[Token], at: usize) -> Result<(List<Name>, usize), ParseStop>
+    requires { StandsAtToken tokens.now at }
+    ensures gives { GivesReading (λ m. m) tokens.now result (rules.type_names (drop at tokens.now)) }
     ensures moves { IfOk result (λ r. Moves tokens.now at r.1) }
 {
-    let (first, to) = type_name(spelled, tokens, at)?;
-    let mut names = List::new(spelled.alloc);
+    let (first, to) = type_name(alloc, tokens, at)?;
+    let mut names = List::new(alloc);
     names.push_within(2, first)?;
-    more_type_names(spelled, tokens, to, names)
+    more_type_names(alloc, tokens, to, names)
 }
 
 /// TypeName, as a list of one.
 #[tactic(auto, unfolding(crate::specs::Parts::one_type_name))]
 fn one_type_name(
-    spelled: &Spelled,
+    alloc: Global,
     tokens: &[Token],
     at: usize,
 ) -> Result<(List<Name>, usize), ParseStop>
-    requires stands { StandsAtToken tokens.now at }
-    requires numbered { Numbered spelled.now.symbols.now spelled.now.numbers.now tokens.now }
-    ensures gives { GivesReading (map (name_view spelled.now.symbols.now)) tokens.now result (parts.one_type_name (drop at tokens.now)) }
+    requires { StandsAtToken tokens.now at }
+    ensures gives { GivesReading (λ m. m) tokens.now result (parts.one_type_name (drop at tokens.now)) }
     ensures moves { IfOk result (λ r. Moves tokens.now at r.1) }
 {
-    let (name, to) = type_name(spelled, tokens, at)?;
-    let mut names = List::new(spelled.alloc);
+    let (name, to) = type_name(alloc, tokens, at)?;
+    let mut names = List::new(alloc);
     names.push_within(1, name)?;
     Ok((names, to))
 }
 
 /// TypeName  |  "(" TypeName {"&" TypeName} ")"
 #[tactic(auto, unfolding(pc_grammar::specs::ReadingFile::provided, crate::specs::Parts::one_type_name, pc_grammar::specs::Reading::peek))]
-fn provided(
-    spelled: &Spelled,
-    tokens: &[Token],
-    at: usize,
-) -> Result<(List<Name>, usize), ParseStop>
-    requires stands { StandsAtToken tokens.now at }
-    requires numbered { Numbered spelled.now.symbols.now spelled.now.numbers.now tokens.now }
-    ensures gives { GivesReading (map (name_view spelled.now.symbols.now)) tokens.now result (rules.provided (drop at tokens.now)) }
+fn provided(alloc: Global, tokens: &[Token], at: usize) -> Result<(List<Name>, usize), ParseStop>
+    requires { StandsAtToken tokens.now at }
+    ensures gives { GivesReading (λ m. m) tokens.now result (rules.provided (drop at tokens.now)) }
     ensures moves { IfOk result (λ r. Moves tokens.now at r.1) }
 {
     if !is_sign(look(tokens, at), Sign::OpenParen) {
-        return one_type_name(spelled, tokens, at);
+        return one_type_name(alloc, tokens, at);
     }
     let (_, begin) = take_sign(tokens, at, Sign::OpenParen)?;
-    let (names, end) = type_names(spelled, tokens, begin)?;
+    let (names, end) = type_names(alloc, tokens, begin)?;
     let (_, to) = take_sign(tokens, end, Sign::CloseParen)?;
     Ok((names, to))
 }
@@ -93,18 +81,17 @@ fn provided(
 /// ["is" (TypeName | "(" TypeName {"&" TypeName} ")")]
 #[tactic(auto, unfolding(pc_grammar::specs::ReadingFile::provides, pc_grammar::specs::Reading::peek))]
 pub fn provides(
-    spelled: &Spelled,
+    alloc: Global,
     tokens: &[Token],
     at: usize,
 ) -> Result<(List<Name>, usize), ParseStop>
-    requires stands { StandsAtToken tokens.now at }
-    requires numbered { Numbered spelled.now.symbols.now spelled.now.numbers.now tokens.now }
-    ensures gives { GivesReading (map (name_view spelled.now.symbols.now)) tokens.now result (rules.provides (drop at tokens.now)) }
+    requires { StandsAtToken tokens.now at }
+    ensures gives { GivesReading (λ m. m) tokens.now result (rules.provides (drop at tokens.now)) }
     ensures moves { IfOk result (λ r. (at ≤ r.1) × StandsAtToken tokens.now r.1) }
 {
     if !is_word(look(tokens, at), Word::IsWord) {
-        return Ok((List::new(spelled.alloc), at));
+        return Ok((List::new(alloc), at));
     }
     let (_, begin) = take_word(tokens, at, Word::IsWord)?;
-    provided(spelled, tokens, begin)
+    provided(alloc, tokens, begin)
 }

@@ -4,7 +4,7 @@ use Rattle.std.specs.Prelude.{codes}
 use Rattle.pc_caps.specs.declared.capability.Cap.{Cap}
 use Rattle.pc_caps.specs.declared.capability.Cap.TheVariants as c
 use Rattle.pc_tree.specs.Tree as t
-use Rattle.pc_tree.specs.{Tree.{Name, TypeRef, ParamDef}, declared.kinds.Op.Op}
+use Rattle.pc_tree.specs.{declared.written_names.Name.Name, declared.written_names.TypeRef.TypeRef, declared.file.ParamDef.ParamDef, declared.kinds.Op.Op}
 use Rattle.pc_tree.specs.declared.kinds.Op.TheVariants as o
 use Rattle.pc_token.specs.{declared.words.Word.Word, Words.word_text}
 use Rattle.pc_token.specs.declared.words.Word.TheVariants as w

@@ -1,6 +1,6 @@
 -- One tree and its printed text.
 use Rattle.std.specs.Prelude.{◌≡◌, List, [], ◌∷◌, ◌++◌, Some, None, false, codes, ℕ}
-use Rattle.pc_tree.specs.Tree.{Name}
+use Rattle.pc_tree.specs.declared.written_names.Name.{Name}
 use Rattle.pc_grammar.specs.Spells.{no_span}
 use Rattle.pc_print.specs.Printing.{printed}
 use Rattle.pc_tree.specs.Tree as t

@@ -1,7 +1,7 @@
 -- The parts of a printed text by names of their own, for the contracts of the code and for proofs. Each of `more_...` is
 -- what is left of a list after its first element.
 use Rattle.std.specs.{Prelude.{ℕ, List, [], ◌++◌, Bool, Option, if◌then◌else◌, codes, flat_map}, List.join_by, Option.option_map_or}
-use Rattle.pc_tree.specs.{Tree.{Name, ParamDef}, declared.kinds.Op.Op}
+use Rattle.pc_tree.specs.{declared.written_names.Name.Name, declared.file.ParamDef.ParamDef, declared.kinds.Op.Op}
 use Rattle.pc_print.specs.Printing.{body_lines, escaped, op_text, printed_arms, printed_entity, printed_expr, printed_exprs, printed_field, printed_items, printed_method, printed_param}
 use Rattle.pc_tree.specs.Tree as t
 

@@ -1,7 +1,7 @@
 -- The printed text of a tree.
 use Rattle.std.specs.{Prelude.{ℕ, ◌/◌, ◌%◌, ◌==◌, ◌||◌, nat_lt, List, [], ◌∷◌, ◌++◌, if◌then◌else◌, Option, codes, decimal, flat_map}, Char.digit_char, List.join_by, Option.option_map_or}
 use Rattle.pc_caps.specs.{declared.capability.Cap.Cap, Words.cap_name}
-use Rattle.pc_tree.specs.{Tree.{Name, TypeRef, ParamDef}, declared.kinds.Op.Op}
+use Rattle.pc_tree.specs.{declared.written_names.Name.Name, declared.written_names.TypeRef.TypeRef, declared.file.ParamDef.ParamDef, declared.kinds.Op.Op}
 use Rattle.pc_token.specs.Words.{word_text}
 use Rattle.pc_grammar.specs.Spells.{local_word, truth_word, method_word, entity_word}
 use Rattle.pc_caps.specs.declared.capability.Cap.TheVariants as c

@@ -4,40 +4,39 @@ ghost use Rattle.pc_print.specs.Parts as parts;
 ghost use Rattle.pc_print.specs.Printing as text;
 ghost use Rattle.pc_token.specs.Words.{word_text};
 ghost use Rattle.pc_grammar.specs.Spells.{entity_word};
-ghost use Rattle.pc_tree.specs.View.{name_view, entity_view, file_view};
+ghost use Rattle.pc_tree.specs.View.{entity_view, file_view};
 
 use crate::leaves::{push_between, push_cap};
 use crate::member::{push_fields, push_methods};
 use pc_base::List;
-use pc_symbols::Symbols;
 use pc_tree::{Entity, EntityKind, File, Name};
 use std::alloc::{AllocError, Global};
 
 // The names after `is`.
-fn push_names(symbols: &Symbols, out: &mut Vec<u8>, names: &[Name]) -> Result<(), AllocError>
-    ensures { OnOk result (out.new.items ≡ out.old.items ++ parts.printed_names (map (name_view symbols.now) names.now)) }
+fn push_names(out: &mut Vec<u8>, names: &[Name]) -> Result<(), AllocError>
+    ensures { OnOk result (out.new.items ≡ out.old.items ++ parts.printed_names names.now) }
 {
     let mut first = true;
     for name in names {
         push_between(out, first, b" & ")?;
-        symbols.push_text(out, name.symbol)?;
+        out.extend_from_slice(name.text.as_slice())?;
         first = false;
     }
     Ok(())
 }
 
 // What follows an entity's name, if it has an `is` list.
-fn push_provides(symbols: &Symbols, out: &mut Vec<u8>, names: &[Name]) -> Result<(), AllocError>
-    ensures { OnOk result (out.new.items ≡ out.old.items ++ text.printed_provides (map (name_view symbols.now) names.now)) }
+fn push_provides(out: &mut Vec<u8>, names: &[Name]) -> Result<(), AllocError>
+    ensures { OnOk result (out.new.items ≡ out.old.items ++ text.printed_provides names.now) }
 {
     if names.is_empty() {
         Ok(())
     } else if names.len() == 1 {
         out.extend_from_slice(b" is ")?;
-        push_names(symbols, out, names)
+        push_names(out, names)
     } else {
         out.extend_from_slice(b" is (")?;
-        push_names(symbols, out, names)?;
+        push_names(out, names)?;
         out.extend_from_slice(b")")
     }
 }
@@ -54,35 +53,25 @@ fn entity_text(kind: EntityKind) -> &'static [u8]
     }
 }
 
-fn push_entity(
-    alloc: Global,
-    symbols: &Symbols,
-    out: &mut Vec<u8>,
-    entity: &Entity,
-) -> Result<(), AllocError>
-    ensures { OnOk result (out.new.items ≡ out.old.items ++ text.printed_entity (entity_view symbols.now entity.now)) }
+fn push_entity(alloc: Global, out: &mut Vec<u8>, entity: &Entity) -> Result<(), AllocError>
+    ensures { OnOk result (out.new.items ≡ out.old.items ++ text.printed_entity (entity_view entity.now)) }
 {
     out.extend_from_slice(entity_text(entity.kind))?;
     push_cap(out, entity.cap)?;
     out.extend_from_slice(b" ")?;
-    symbols.push_text(out, entity.name.symbol)?;
-    push_provides(symbols, out, entity.provides.as_slice())?;
-    push_fields(alloc, symbols, out, entity.fields.as_slice())?;
-    push_methods(alloc, symbols, out, entity.methods.as_slice())
+    out.extend_from_slice(entity.name.text.as_slice())?;
+    push_provides(out, entity.provides.as_slice())?;
+    push_fields(alloc, out, entity.fields.as_slice())?;
+    push_methods(alloc, out, entity.methods.as_slice())
 }
 
-fn push_entities(
-    alloc: Global,
-    symbols: &Symbols,
-    out: &mut Vec<u8>,
-    entities: &[Entity],
-) -> Result<(), AllocError>
-    ensures { OnOk result (out.new.items ≡ out.old.items ++ parts.printed_entities (map (entity_view symbols.now) entities.now)) }
+fn push_entities(alloc: Global, out: &mut Vec<u8>, entities: &[Entity]) -> Result<(), AllocError>
+    ensures { OnOk result (out.new.items ≡ out.old.items ++ parts.printed_entities (map entity_view entities.now)) }
 {
     let mut first = true;
     for entity in entities {
         push_between(out, first, b"\n\n")?;
-        push_entity(alloc, symbols, out, entity)?;
+        push_entity(alloc, out, entity)?;
         first = false;
     }
     Ok(())
@@ -94,7 +83,7 @@ pub fn print(alloc: Global, file: &File) -> Result<List<u8>, AllocError>
     ensures { IfOk result (λ bytes. bytes ≡ text.printed (file_view file.now)) }
 {
     let mut out: Vec<u8> = Vec::new(alloc);
-    push_entities(alloc, &file.symbols, &mut out, file.entities.as_slice())?;
+    push_entities(alloc, &mut out, file.entities.as_slice())?;
     out.extend_from_slice(b"\n")?;
     Ok(List::from_vec(out))
 }

@@ -2,7 +2,6 @@
 ghost use Rattle.std.specs.Prelude.{◌≡◌, ◌++◌, ◌<◌, ◌/◌, ◌%◌, [], ◌∷◌, if◌then◌else◌, OnOk};
 ghost use Rattle.std.specs.Char.{digit_char};
 ghost use Rattle.std.specs.Fmt.{decimal};
-ghost use Rattle.pc_tree.specs.View.{type_view, maybe_type_view};
 ghost use Rattle.pc_print.specs.Printing.{escaped};
 ghost use Rattle.pc_print.specs.Parts as parts;
 ghost use Rattle.pc_print.specs.Printing as text;
@@ -10,7 +9,6 @@ ghost use Rattle.pc_token.specs.Words.{word_text};
 ghost use Rattle.pc_grammar.specs.Spells.{local_word};
 
 use pc_caps::Cap;
-use pc_symbols::Symbols;
 use pc_tree::{Op, TypeRef};
 use std::alloc::{AllocError, Global};
 
@@ -99,26 +97,22 @@ fn push_hat(out: &mut Vec<u8>, hat: bool) -> Result<(), AllocError>
 }
 
 /// A type.
-pub fn push_type(symbols: &Symbols, out: &mut Vec<u8>, ty: &TypeRef) -> Result<(), AllocError>
-    ensures { OnOk result (out.new.items ≡ out.old.items ++ text.printed_type_ref (type_view symbols.now ty.now)) }
+pub fn push_type(out: &mut Vec<u8>, ty: &TypeRef) -> Result<(), AllocError>
+    ensures { OnOk result (out.new.items ≡ out.old.items ++ text.printed_type_ref ty.now) }
 {
-    symbols.push_text(out, ty.name.symbol)?;
+    out.extend_from_slice(ty.name.text.as_slice())?;
     push_cap(out, ty.cap)?;
     push_hat(out, ty.hat)
 }
 
 /// A type with its `:`, if one is written.
-pub fn push_typed(
-    symbols: &Symbols,
-    out: &mut Vec<u8>,
-    ty: &Option<TypeRef>,
-) -> Result<(), AllocError>
-    ensures { OnOk result (out.new.items ≡ out.old.items ++ text.printed_type (maybe_type_view symbols.now ty.now)) }
+pub fn push_typed(out: &mut Vec<u8>, ty: &Option<TypeRef>) -> Result<(), AllocError>
+    ensures { OnOk result (out.new.items ≡ out.old.items ++ text.printed_type ty.now) }
 {
     match ty {
         Some(r) => {
             out.extend_from_slice(b": ")?;
-            push_type(symbols, out, r)
+            push_type(out, r)
         }
         None => Ok(()),
     }

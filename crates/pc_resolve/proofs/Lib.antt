@@ -3,4 +3,3 @@ pub mod Indexes
 pub mod NearNames
 pub mod Texts
 pub mod Visibles
-pub mod Spelled

@@ -1,39 +1,37 @@
 //! The constructors of an entity, looked up by their names.
-ghost use Rattle.std.specs.Prelude.{◌≡◌, [], IfOk, OnOk, map, nat_eq};
+ghost use Rattle.std.specs.Prelude.{◌≡◌, [], IfOk, OnOk, map};
+ghost use Rattle.std.specs.Str.{bytes_eq};
 ghost use Rattle.pc_body_spec.specs.Bodies as spec;
 ghost use Rattle.pc_body_spec.specs.Bodies.{create_name};
 ghost use Rattle.pc_resolve.specs.Indexes.{firsts, with_firsts};
 ghost use Rattle.pc_resolve.specs.Pairs.{constructor_pair};
-ghost use Rattle.pc_resolve.specs.Symbolic.{constructor_of_symbol, constructors_view};
-ghost use Rattle.pc_symbols.specs.Spellings.{text_of};
 
 use crate::index::Index;
 use crate::near::{far, near};
-use pc_base::List;
-use pc_symbols::words::CREATE;
-use pc_symbols::{KeyedBy, Symbol, Symbols};
+use pc_base::{List, ShortBytes};
+use pc_keyed::KeyedBy;
 use std::alloc::{AllocError, Global};
 use std::marker::Model;
 
 /// A constructor of an entity.
 #[derive(Drop)]
 pub struct Constructor {
-    name: Symbol,
+    name: ShortBytes,
     method: u32,
 }
 
 impl Model for Constructor {
-    ghost use Rattle.pc_resolve.specs.Symbolic.{ConstructorSymbol};
+    ghost use Rattle.pc_body_spec.specs.Bodies.{Constructor as Seen};
 
-    ghost Value = { ConstructorSymbol };
+    ghost Value = { Seen };
 
-    ghost view = { λ c. record { name = c.name.number; method = c.method } };
+    ghost view = { λ c. record { name = c.name; method = c.method } };
 }
 
 impl Constructor {
     /// The constructor with this name, which has this number among the methods of the program.
-    pub fn new(name: Symbol, method: u32) -> Constructor
-        ensures { result ≡ record { name = name.number; method = method } }
+    pub fn new(name: ShortBytes, method: u32) -> Constructor
+        ensures { result ≡ record { name = name; method = method } }
     {
         Constructor { name, method }
     }
@@ -49,17 +47,18 @@ pub struct Constructors {
 }
 
 impl Model for Constructors {
-    ghost use Rattle.std.specs.Prelude.{◌≡◌, List as Sequence, map, drop, nat_eq};
-    ghost use Rattle.pc_resolve.specs.Symbolic.{ConstructorSymbol, constructor_of_symbol, create_symbol};
+    ghost use Rattle.std.specs.Prelude.{◌≡◌, List as Sequence, map, drop};
+    ghost use Rattle.std.specs.Str.{bytes_eq};
+    ghost use Rattle.pc_body_spec.specs.Bodies.{Constructor as Seen, constructor_named, create_name};
     ghost use Rattle.pc_resolve.specs.Indexes.{firsts};
     ghost use Rattle.pc_resolve.specs.Near.{near_count};
     ghost use Rattle.pc_resolve.specs.Pairs.{constructor_pair};
 
-    ghost Value = { Sequence ConstructorSymbol };
+    ghost Value = { Sequence Seen };
 
     ghost view = { λ c. c.row };
 
-    ghost invariant = { λ c. (c.methods ≡ firsts nat_eq (map constructor_pair (drop near_count c.row))) × (c.create ≡ constructor_of_symbol c.row create_symbol) };
+    ghost invariant = { λ c. (c.methods ≡ firsts bytes_eq (map constructor_pair (drop near_count c.row))) × (c.create ≡ constructor_named c.row create_name) };
 }
 
 impl Constructors {
@@ -76,15 +75,11 @@ impl Constructors {
     }
 
     /// These constructors. `Err` if memory runs out.
-    pub fn of(
-        alloc: Global,
-        symbols: &Symbols,
-        row: List<Constructor>,
-    ) -> Result<Constructors, AllocError>
+    pub fn of(alloc: Global, row: List<Constructor>) -> Result<Constructors, AllocError>
         ensures { IfOk result (λ constructors. constructors ≡ row) }
     {
         let methods = number_methods(alloc, far(row.as_slice()))?;
-        let create = method_named(row.as_slice(), symbols.word(CREATE));
+        let create = method_named(row.as_slice(), b"create");
         Ok(Constructors {
             row,
             methods,
@@ -94,10 +89,9 @@ impl Constructors {
 
     /// The number of the constructor with this name among the methods of the program. `None` iff none of these has it;
     /// the first counts.
-    pub fn find(&self, symbols: &Symbols, name: Symbol) -> Option<u32>
-        ensures { result ≡ spec.constructor_named (constructors_view symbols.now self.now) (text_of symbols.now name.number) }
+    pub fn find(&self, name: &[u8]) -> Option<u32>
+        ensures { result ≡ spec.constructor_named self.now name.now }
     {
-        symbols.differ();
         match method_named(near(self.row.as_slice()), name) {
             Some(method) => Some(method),
             None => self.methods.find(name),
@@ -105,21 +99,19 @@ impl Constructors {
     }
 
     /// The number of the constructor `create` among the methods of the program. `None` iff none of these has this name.
-    pub fn create(&self, symbols: &Symbols) -> Option<u32>
-        ensures { result ≡ spec.constructor_named (constructors_view symbols.now self.now) create_name }
+    pub fn create(&self) -> Option<u32>
+        ensures { result ≡ spec.constructor_named self.now create_name }
     {
-        symbols.differ();
-        let _create = symbols.word(CREATE);
         self.create
     }
 }
 
 // The number of the constructor with this name among the methods. All of them are looked at.
-fn method_named(row: &[Constructor], name: Symbol) -> Option<u32>
-    ensures { result ≡ constructor_of_symbol row.now name.number }
+fn method_named(row: &[Constructor], name: &[u8]) -> Option<u32>
+    ensures { result ≡ spec.constructor_named row.now name.now }
 {
     for constructor in row {
-        if constructor.name.is(name) {
+        if constructor.name.as_slice() == name {
             return Some(constructor.method);
         }
     }
@@ -128,7 +120,7 @@ fn method_named(row: &[Constructor], name: Symbol) -> Option<u32>
 
 // The number of each constructor among the methods, by its name.
 fn number_methods(alloc: Global, row: &[Constructor]) -> Result<Index, AllocError>
-    ensures { IfOk result (λ methods. methods ≡ firsts nat_eq (map constructor_pair row.now)) }
+    ensures { IfOk result (λ methods. methods ≡ firsts bytes_eq (map constructor_pair row.now)) }
 {
     let mut methods = Index::new(alloc, key_of(row));
     add_methods(&mut methods, row)?;
@@ -137,10 +129,10 @@ fn number_methods(alloc: Global, row: &[Constructor]) -> Result<Index, AllocErro
 
 // Appends those of these constructors whose names are not there already.
 fn add_methods(methods: &mut Index, row: &[Constructor]) -> Result<(), AllocError>
-    ensures { OnOk result (methods.new ≡ with_firsts nat_eq methods.old (map constructor_pair row.now)) }
+    ensures { OnOk result (methods.new ≡ with_firsts bytes_eq methods.old (map constructor_pair row.now)) }
 {
     for constructor in row {
-        methods.add(constructor.name, constructor.method)?;
+        methods.add(constructor.name.as_slice(), constructor.method)?;
     }
     Ok(())
 }
@@ -149,7 +141,7 @@ fn add_methods(methods: &mut Index, row: &[Constructor]) -> Result<(), AllocErro
 fn key_of(row: &[Constructor]) -> KeyedBy {
     let mut key = KeyedBy::nothing();
     for constructor in row {
-        key.add_number(constructor.name.number());
+        key.add(constructor.name.as_slice());
     }
     key
 }

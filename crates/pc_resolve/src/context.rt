@@ -1,24 +1,21 @@
 //! What stays the same throughout the body of a method, and the meaning of names in it.
 ghost use Rattle.pc_body_spec.specs.Fold as fold;
-ghost use Rattle.std.specs.Prelude.{◌≡◌, ◌<◌, ◌^◌, length, map, Option, IfOk, OnOk, OnErr, if◌then◌else◌};
+ghost use Rattle.std.specs.Prelude.{◌≡◌, ◌<◌, ◌^◌, length, Option, IfOk, OnOk, OnErr, if◌then◌else◌};
 ghost use Rattle.pc_body_spec.specs.Bodies as spec;
 ghost use Rattle.pc_body_spec.specs.Bodies.{apply_name};
 ghost use Rattle.pc_body_spec.specs.Faults.{is_entity};
 ghost use Rattle.pc_body_spec.specs.Parts as parts;
-ghost use Rattle.pc_resolve.specs.Meanings.{meaning_view, type_meaning_view};
-ghost use Rattle.pc_resolve.specs.Symbolic.{constructors_view, context_view, place_from, scope_view};
-ghost use Rattle.pc_symbols.specs.Spellings.{text_of};
-ghost use Rattle.pc_tree.specs.View.{type_view as tree_type};
+ghost use Rattle.pc_resolve.specs.Meanings.{meaning_view, type_view};
 
 use crate::entities::{Entities, Known};
 use crate::local_slots::LocalSlots;
 use crate::meaning::{Meaning, TypeMeaning};
 use crate::name_row::NameRow;
 use crate::scope::{Visible, slot_of};
-use pc_base::List;
+use pc_base::{List, ShortBytes};
 use pc_caps::Cap;
-use pc_symbols::words::APPLY;
-use pc_symbols::{KeyedBy, Symbol, SymbolTable, Symbols};
+use pc_keyed::KeyedBy;
+use pc_members::NameTable;
 use pc_tree::{EntityKind, FIRST_OWN, NONE_ENTITY, TypeRef};
 use std::alloc::{AllocError, Global};
 use std::marker::Model;
@@ -30,7 +27,7 @@ use std::marker::Model;
 pub struct Context {
     members: Members,
     entities: Entities,
-    texts: SymbolTable,
+    texts: NameTable,
     apply: u32,
     slots: LocalSlots,
 }
@@ -47,11 +44,11 @@ impl Members {
     fn of(
         alloc: Global,
         key: KeyedBy,
-        fields: List<Symbol>,
-        methods: List<Symbol>,
+        fields: List<ShortBytes>,
+        methods: List<ShortBytes>,
     ) -> Result<Members, AllocError>
-        ensures fields { IfOk result (λ members. members.fields ≡ map (λ s. s.number) fields) }
-        ensures methods { IfOk result (λ members. members.methods ≡ map (λ s. s.number) methods) }
+        ensures fields { IfOk result (λ members. members.fields ≡ fields) }
+        ensures methods { IfOk result (λ members. members.methods ≡ methods) }
     {
         let fields = NameRow::of(alloc, key, fields)?;
         let methods = NameRow::of(alloc, key, methods)?;
@@ -61,13 +58,13 @@ impl Members {
 
 impl Model for Context {
     ghost use Rattle.std.specs.Prelude.{◌≡◌, ◌<◌, ◌^◌, length, if◌then◌else◌};
-    ghost use Rattle.pc_resolve.specs.Symbolic.{ContextSymbols, apply_symbol, place_from};
+    ghost use Rattle.pc_body_spec.specs.Bodies.{Context as Seen, apply_name, text_from};
 
-    ghost Value = { ContextSymbols };
+    ghost Value = { Seen };
 
     ghost view = { λ c. record { fields = c.members.fields; methods = c.members.methods; entities = c.entities; texts = c.texts; slots = c.slots } };
 
-    ghost invariant = { λ c. (length c.entities < 2 ^ 32) × (c.apply ≡ place_from 0 c.texts apply_symbol) };
+    ghost invariant = { λ c. (length c.entities < 2 ^ 32) × (c.apply ≡ text_from 0 c.texts apply_name) };
 }
 
 impl Context {
@@ -76,20 +73,19 @@ impl Context {
     /// locals. Names are looked up by a hash with the key of the texts. `Err` if memory runs out.
     pub fn new(
         alloc: Global,
-        symbols: &Symbols,
-        fields: List<Symbol>,
-        methods: List<Symbol>,
+        fields: List<ShortBytes>,
+        methods: List<ShortBytes>,
         entities: List<Known>,
-        texts: SymbolTable,
+        texts: NameTable,
         slots: LocalSlots,
     ) -> Result<Context, AllocError>
         requires { length entities < 2 ^ 32 }
-        ensures { IfOk result (λ context. context ≡ record { fields = map (λ s. s.number) fields; methods = map (λ s. s.number) methods; entities = entities; texts = texts; slots = slots }) }
+        ensures { IfOk result (λ context. context ≡ record { fields = fields; methods = methods; entities = entities; texts = texts; slots = slots }) }
     {
         let key = texts.key();
         let members = Members::of(alloc, key, fields, methods)?;
         let entities = Entities::of(alloc, key, entities)?;
-        let apply = number_in(&texts, symbols.word(APPLY));
+        let apply = number_in(&texts, b"apply");
         Ok(Context {
             members,
             entities,
@@ -104,10 +100,10 @@ impl Context {
     pub fn set_members(
         &mut self,
         alloc: Global,
-        fields: List<Symbol>,
-        methods: List<Symbol>,
+        fields: List<ShortBytes>,
+        methods: List<ShortBytes>,
     ) -> Result<(), AllocError>
-        ensures ok { OnOk result (self.new ≡ record { fields = map (λ s. s.number) fields; methods = map (λ s. s.number) methods; entities = self.old.entities; texts = self.old.texts; slots = self.old.slots }) }
+        ensures ok { OnOk result (self.new ≡ record { fields = fields; methods = methods; entities = self.old.entities; texts = self.old.texts; slots = self.old.slots }) }
         ensures err { OnErr result (self.new ≡ self.old) }
     {
         self.members = Members::of(alloc, self.key(), fields, methods)?;
@@ -123,17 +119,16 @@ impl Context {
 
     /// The meaning of a bare name if these locals and parameters are visible: a local or parameter, else a field of the
     /// entity, else a method of the entity.
-    pub fn resolve(&self, symbols: &Symbols, scope: &[Visible], name: Symbol) -> Meaning
-        ensures { meaning_view result ≡ spec.resolve (context_view symbols.now self.now) (scope_view symbols.now scope.now) (text_of symbols.now name.number) }
+    pub fn resolve(&self, scope: &[Visible], name: &[u8]) -> Meaning
+        ensures { meaning_view result ≡ spec.resolve self.now scope.now name.now }
     {
-        self.meaning(symbols, slot_of(symbols, scope, name), name)
+        self.meaning(slot_of(scope, name), name)
     }
 
     /// The meaning of a bare name, given the slot of the visible local or parameter with this name, if there is one.
-    pub fn meaning(&self, symbols: &Symbols, local: Option<u32>, name: Symbol) -> Meaning
-        ensures { meaning_view result ≡ spec.unless_local local (spec.member (spec.is_among_names (context_view symbols.now self.now).fields (text_of symbols.now name.number)) (spec.is_among_names (context_view symbols.now self.now).methods (text_of symbols.now name.number))) }
+    pub fn meaning(&self, local: Option<u32>, name: &[u8]) -> Meaning
+        ensures { meaning_view result ≡ spec.unless_local local (spec.member (spec.is_among_names self.now.fields name.now) (spec.is_among_names self.now.methods name.now)) }
     {
-        symbols.differ();
         if let Some(slot) = local {
             return Meaning::Local(slot);
         }
@@ -149,22 +144,20 @@ impl Context {
 
     /// The meaning of a type name as an expression: the value of a primitive, an entity with constructors, or nothing.
     #[tactic(auto, using(crate::proofs::Found::type_found))]
-    pub fn type_meaning<'a>(&'a self, symbols: &Symbols, name: Symbol) -> TypeMeaning<'a>
-        ensures { type_meaning_view symbols.now result ≡ spec.type_meaning (context_view symbols.now self.now) (text_of symbols.now name.number) }
+    pub fn type_meaning(&self, name: &[u8]) -> TypeMeaning<'_>
+        ensures { type_view result ≡ spec.type_meaning self.now name.now }
     {
-        symbols.differ();
         match self.entities.find(name) {
-            Some((number, known)) => meaning_of(symbols, number, known),
+            Some((number, known)) => meaning_of(number, known),
             None => TypeMeaning::NoValue,
         }
     }
 
     /// Whether an entity of the program has this name.
     #[tactic(auto, using(crate::proofs::Found::is_entity_found))]
-    pub fn has_entity(&self, symbols: &Symbols, name: Symbol) -> bool
-        ensures { result ≡ is_entity (context_view symbols.now self.now).entities (text_of symbols.now name.number) }
+    pub fn has_entity(&self, name: &[u8]) -> bool
+        ensures { result ≡ is_entity self.now.entities name.now }
     {
-        symbols.differ();
         self.entities.find(name).is_some()
     }
 
@@ -176,30 +169,26 @@ impl Context {
     }
 
     /// The number of a text, or 0 if it is not one of the program's.
-    pub fn text_of(&self, symbols: &Symbols, name: Symbol) -> u32
-        ensures { result ≡ spec.number_of_text (context_view symbols.now self.now) (text_of symbols.now name.number) }
+    pub fn text_of(&self, name: &[u8]) -> u32
+        ensures { result ≡ spec.number_of_text self.now name.now }
     {
-        symbols.differ();
         number_in(&self.texts, name)
     }
 
     /// The number of the text `apply`, or 0 if it is not one of the program's.
-    pub fn apply(&self, symbols: &Symbols) -> u32
-        ensures { result ≡ spec.number_of_text (context_view symbols.now self.now) apply_name }
+    pub fn apply(&self) -> u32
+        ensures { result ≡ spec.number_of_text self.now apply_name }
     {
-        symbols.differ();
-        let _apply = symbols.word(APPLY);
         self.apply
     }
 
     /// The number and the capability of a written type: the capability of its entity if none is written. `None` iff
     /// there is no such entity.
     #[tactic(auto, using(crate::proofs::Found::written_found))]
-    pub fn type_of(&self, symbols: &Symbols, ty: &TypeRef) -> Option<(u32, Cap)>
-        ensures { result ≡ fold.type_of_name 0 (context_view symbols.now self.now).entities (tree_type symbols.now ty.now) }
+    pub fn type_of(&self, ty: &TypeRef) -> Option<(u32, Cap)>
+        ensures { result ≡ fold.type_of_name 0 self.now.entities ty.now }
     {
-        symbols.differ();
-        match self.entities.find(ty.name.symbol) {
+        match self.entities.find(ty.name.text.as_slice()) {
             Some((number, known)) => Some((number, cap_or(ty.cap, known.cap))),
             None => None,
         }
@@ -211,7 +200,7 @@ impl Context {
     }
 
     /// The texts of the program by their numbers.
-    pub fn texts(&self) -> &SymbolTable
+    pub fn texts(&self) -> &NameTable
         ensures { result.now ≡ self.now.texts }
     {
         &self.texts
@@ -220,10 +209,10 @@ impl Context {
 
 // The number of a text in this table, or 0 if it is not there.
 #[tactic(auto, using(crate::proofs::Texts::text_found))]
-fn number_in(texts: &SymbolTable, name: Symbol) -> u32
-    ensures { result ≡ place_from 0 texts.now name.number }
+fn number_in(texts: &NameTable, name: &[u8]) -> u32
+    ensures { result ≡ spec.text_from 0 texts.now name.now }
 {
-    match texts.find_symbol(name) {
+    match texts.find(name) {
         Some(number) => number,
         None => 0,
     }
@@ -240,8 +229,8 @@ fn cap_or(written: Option<Cap>, own: Cap) -> Cap
 }
 
 // The meaning of the name of the entity with this number.
-fn meaning_of<'a>(symbols: &Symbols, number: u32, known: &'a Known) -> TypeMeaning<'a>
-    ensures { type_meaning_view symbols.now result ≡ if spec.is_own number then spec.by_kind known.now.kind number (constructors_view symbols.now known.now.constructors) else spec.no_value }
+fn meaning_of(number: u32, known: &Known) -> TypeMeaning<'_>
+    ensures { type_view result ≡ if spec.is_own number then spec.by_kind known.now.kind number known.now.constructors else spec.no_value }
 {
     // Of the built-in entities only None has a value that its name denotes.
     if number != NONE_ENTITY && number < FIRST_OWN {

@@ -1,15 +1,15 @@
 //! What a body knows of the entities of the program, looked up by their names.
-ghost use Rattle.std.specs.Prelude.{◌≡◌, ◌<◌, ◌^◌, Some, IfOk, OnOk, length, nat_eq};
+ghost use Rattle.std.specs.Prelude.{◌≡◌, ◌<◌, ◌^◌, Some, IfOk, OnOk, length};
 ghost use Rattle.std.specs.Option.{option_map};
+ghost use Rattle.std.specs.Str.{bytes_eq};
 ghost use Rattle.pc_resolve.specs.Indexes.{firsts, with_firsts};
-ghost use Rattle.pc_resolve.specs.Pairs.{known_pairs};
-ghost use Rattle.pc_resolve.specs.Symbolic.{known_from, picked};
+ghost use Rattle.pc_resolve.specs.Pairs.{known_at, known_pairs, picked};
 
 use crate::constructors::Constructors;
 use crate::index::Index;
-use pc_base::List;
+use pc_base::{List, ShortBytes};
 use pc_caps::Cap;
-use pc_symbols::{KeyedBy, Symbol};
+use pc_keyed::KeyedBy;
 use pc_tree::EntityKind;
 use std::alloc::{AllocError, Global};
 use std::marker::Model;
@@ -17,25 +17,25 @@ use std::marker::Model;
 /// What a body knows of an entity of the program.
 #[derive(Drop)]
 pub struct Known {
-    pub(crate) name: Symbol,
+    pub(crate) name: ShortBytes,
     pub(crate) kind: EntityKind,
     pub(crate) cap: Cap,
     pub(crate) constructors: Constructors,
 }
 
 impl Model for Known {
-    ghost use Rattle.pc_resolve.specs.Symbolic.{KnownSymbol};
+    ghost use Rattle.pc_body_spec.specs.Bodies.{KnownEntity as Seen};
 
-    ghost Value = { KnownSymbol };
+    ghost Value = { Seen };
 
-    ghost view = { λ k. record { name = k.name.number; kind = k.kind; cap = k.cap; constructors = k.constructors } };
+    ghost view = { λ k. record { name = k.name; kind = k.kind; cap = k.cap; constructors = k.constructors } };
 }
 
 impl Known {
     /// An entity with this name and kind, whose type has this capability if none is written. A constructor that is
     /// added because none is written is among the constructors.
-    pub fn new(name: Symbol, kind: EntityKind, cap: Cap, constructors: Constructors) -> Known
-        ensures { result ≡ record { name = name.number; kind = kind; cap = cap; constructors = constructors } }
+    pub fn new(name: ShortBytes, kind: EntityKind, cap: Cap, constructors: Constructors) -> Known
+        ensures { result ≡ record { name = name; kind = kind; cap = cap; constructors = constructors } }
     {
         Known {
             name,
@@ -54,16 +54,17 @@ pub(crate) struct Entities {
 }
 
 impl Model for Entities {
-    ghost use Rattle.std.specs.Prelude.{◌≡◌, List as Sequence, nat_eq};
-    ghost use Rattle.pc_resolve.specs.Symbolic.{KnownSymbol};
+    ghost use Rattle.std.specs.Prelude.{◌≡◌, List as Sequence};
+    ghost use Rattle.std.specs.Str.{bytes_eq};
+    ghost use Rattle.pc_body_spec.specs.Bodies.{KnownEntity as Seen};
     ghost use Rattle.pc_resolve.specs.Indexes.{firsts};
     ghost use Rattle.pc_resolve.specs.Pairs.{known_pairs};
 
-    ghost Value = { Sequence KnownSymbol };
+    ghost Value = { Sequence Seen };
 
     ghost view = { λ e. e.row };
 
-    ghost invariant = { λ e. e.numbers ≡ firsts nat_eq (known_pairs 0 e.row) };
+    ghost invariant = { λ e. e.numbers ≡ firsts bytes_eq (known_pairs 0 e.row) };
 }
 
 impl Entities {
@@ -78,8 +79,8 @@ impl Entities {
 
     /// The entity with this name, and its number. `None` iff there is none; the first counts.
     #[tactic(auto, using(crate::proofs::Found::entity_found))]
-    pub(crate) fn find(&self, name: Symbol) -> Option<(u32, &Known)>
-        ensures { option_map (λ p. (p.0, p.1.now)) result ≡ known_from 0 self.now name.number }
+    pub(crate) fn find(&self, name: &[u8]) -> Option<(u32, &Known)>
+        ensures { option_map (λ p. (p.0, p.1.now)) result ≡ known_at 0 self.now name.now }
     {
         match self.numbers.find(name) {
             Some(number) => self.numbered(number),
@@ -101,7 +102,7 @@ impl Entities {
 // The number of each entity, by its name.
 fn number_entities(alloc: Global, key: KeyedBy, row: &[Known]) -> Result<Index, AllocError>
     requires { length row.now < 2 ^ 32 }
-    ensures { IfOk result (λ numbers. numbers ≡ firsts nat_eq (known_pairs 0 row.now)) }
+    ensures { IfOk result (λ numbers. numbers ≡ firsts bytes_eq (known_pairs 0 row.now)) }
 {
     let mut numbers = Index::new(alloc, key);
     add_numbers(&mut numbers, row)?;
@@ -111,11 +112,11 @@ fn number_entities(alloc: Global, key: KeyedBy, row: &[Known]) -> Result<Index, 
 // Appends those of these entities whose names are not there already.
 fn add_numbers(numbers: &mut Index, row: &[Known]) -> Result<(), AllocError>
     requires { length row.now < 2 ^ 32 }
-    ensures { OnOk result (numbers.new ≡ with_firsts nat_eq numbers.old (known_pairs 0 row.now)) }
+    ensures { OnOk result (numbers.new ≡ with_firsts bytes_eq numbers.old (known_pairs 0 row.now)) }
 {
     for at in 0..row.len() {
         let known = &row[at];
-        numbers.add(known.name, at as u32)?;
+        numbers.add(known.name.as_slice(), at as u32)?;
     }
     Ok(())
 }

@@ -6,7 +6,7 @@ ghost use Rattle.pc_resolve.specs.Pairs.{placed_pair};
 
 use indexmap::IndexMap;
 use pc_base::List;
-use pc_symbols::KeyedBy;
+use pc_keyed::KeyedBy;
 use std::alloc::{AllocError, Global};
 use std::marker::Model;
 

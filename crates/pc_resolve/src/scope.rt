@@ -1,37 +1,36 @@
 //! The visible locals and parameters.
-ghost use Rattle.std.specs.Prelude.{◌≡◌, ◌∷◌, [], ◌++◌, IfOk, OnOk, OnErr, length, map, take, nat_eq, nat_lt, if◌then◌else◌};
+ghost use Rattle.std.specs.Prelude.{◌≡◌, ◌∷◌, [], ◌++◌, IfOk, OnOk, OnErr, length, map, take, nat_lt, if◌then◌else◌};
+ghost use Rattle.std.specs.Str.{bytes_eq};
 ghost use Rattle.pc_body_spec.specs.Bodies as spec;
 ghost use Rattle.pc_resolve.specs.Indexes.{with_first};
 ghost use Rattle.pc_resolve.specs.Near.{near_count};
-ghost use Rattle.pc_resolve.specs.Symbolic.{scope_view, slot_of_symbol};
-ghost use Rattle.pc_symbols.specs.Spellings.{text_of};
 
 use crate::index::Index;
 use crate::near::{NEAR, near};
-use pc_base::List;
-use pc_symbols::{KeyedBy, Symbol, Symbols};
+use pc_base::{List, ShortBytes};
+use pc_keyed::KeyedBy;
 use std::alloc::{AllocError, Global};
 use std::marker::Model;
 
 /// A visible local or parameter, and the index of its slot.
 #[derive(Drop)]
 pub struct Visible {
-    name: Symbol,
+    name: ShortBytes,
     slot: u32,
 }
 
 impl Model for Visible {
-    ghost use Rattle.pc_resolve.specs.Symbolic.{VisibleSymbol};
+    ghost use Rattle.pc_body_spec.specs.Bodies.{Visible as Seen};
 
-    ghost Value = { VisibleSymbol };
+    ghost Value = { Seen };
 
-    ghost view = { λ v. record { name = v.name.number; slot = v.slot } };
+    ghost view = { λ v. record { name = v.name; slot = v.slot } };
 }
 
 impl Visible {
     /// The local or parameter with this name, in the slot with this index.
-    pub fn new(name: Symbol, slot: u32) -> Visible
-        ensures { result ≡ record { name = name.number; slot = slot } }
+    pub fn new(name: ShortBytes, slot: u32) -> Visible
+        ensures { result ≡ record { name = name; slot = slot } }
     {
         Visible { name, slot }
     }
@@ -39,19 +38,11 @@ impl Visible {
 
 /// The slot of the visible local or parameter with this name. `None` iff there is none; the first in the scope counts.
 /// The scope is searched from the start: in a body that gets nodes it has at most 64 slots.
-pub fn slot_of(symbols: &Symbols, scope: &[Visible], name: Symbol) -> Option<u32>
-    ensures { result ≡ spec.slot_named (scope_view symbols.now scope.now) (text_of symbols.now name.number) }
-{
-    symbols.differ();
-    slot_in(scope, name)
-}
-
-// The slot of the local or parameter with this name. All of these are looked at; the first counts.
-fn slot_in(scope: &[Visible], name: Symbol) -> Option<u32>
-    ensures { result ≡ slot_of_symbol scope.now name.number }
+pub fn slot_of(scope: &[Visible], name: &[u8]) -> Option<u32>
+    ensures { result ≡ spec.slot_named scope.now name.now }
 {
     for visible in scope {
-        if visible.name.is(name) {
+        if visible.name.as_slice() == name {
             return Some(visible.slot);
         }
     }
@@ -74,17 +65,18 @@ pub struct Scope {
 }
 
 impl Model for Scope {
-    ghost use Rattle.std.specs.Prelude.{◌≡◌, [], List as Sequence, map, drop, nat_eq};
-    ghost use Rattle.pc_resolve.specs.Symbolic.{VisibleSymbol};
+    ghost use Rattle.std.specs.Prelude.{◌≡◌, [], List as Sequence, map, drop};
+    ghost use Rattle.std.specs.Str.{bytes_eq};
+    ghost use Rattle.pc_body_spec.specs.Bodies.{Visible as Seen};
     ghost use Rattle.pc_resolve.specs.Indexes.{firsts, marks};
     ghost use Rattle.pc_resolve.specs.Near.{near_count};
     ghost use Rattle.pc_resolve.specs.Pairs.{visible_pair};
 
-    ghost Value = { Sequence VisibleSymbol };
+    ghost Value = { Sequence Seen };
 
     ghost view = { λ s. map (λ e. e.visible) s.row };
 
-    ghost invariant = { λ s. (s.slots ≡ firsts nat_eq (map visible_pair (map (λ e. e.visible) (drop near_count s.row)))) × (map (λ e. e.names_before) (drop near_count s.row) ≡ marks nat_eq [] (map visible_pair (map (λ e. e.visible) (drop near_count s.row)))) };
+    ghost invariant = { λ s. (s.slots ≡ firsts bytes_eq (map visible_pair (map (λ e. e.visible) (drop near_count s.row)))) × (map (λ e. e.names_before) (drop near_count s.row) ≡ marks bytes_eq [] (map visible_pair (map (λ e. e.visible) (drop near_count s.row)))) };
 }
 
 impl Scope {
@@ -104,7 +96,7 @@ impl Scope {
         ensures { IfOk result (λ scope. scope ≡ row.now) }
     {
         let mut scope = Scope::new(alloc, key);
-        enter_all(&mut scope, row)?;
+        enter_all(alloc, &mut scope, row)?;
         Ok(scope)
     }
 
@@ -116,10 +108,9 @@ impl Scope {
     }
 
     /// The slot of the visible local or parameter with this name. `None` iff there is none; the first counts.
-    pub fn find(&self, symbols: &Symbols, name: Symbol) -> Option<u32>
-        ensures { result ≡ spec.slot_named (scope_view symbols.now self.now) (text_of symbols.now name.number) }
+    pub fn find(&self, name: &[u8]) -> Option<u32>
+        ensures { result ≡ spec.slot_named self.now name.now }
     {
-        symbols.differ();
         match slot_among(near(self.row.as_slice()), name) {
             Some(slot) => Some(slot),
             None => self.slots.find(name),
@@ -127,12 +118,12 @@ impl Scope {
     }
 
     /// Makes the local with this name, in the slot with this index, visible. An `Err` changes nothing.
-    pub fn push(&mut self, name: Symbol, slot: u32) -> Result<(), AllocError>
-        ensures ok { OnOk result (self.new ≡ self.old ++ record { name = name.number; slot = slot } ∷ []) }
+    pub fn push(&mut self, name: ShortBytes, slot: u32) -> Result<(), AllocError>
+        ensures ok { OnOk result (self.new ≡ self.old ++ record { name = name; slot = slot } ∷ []) }
         ensures err { OnErr result (self.new ≡ self.old) }
     {
         let names_before = self.slots.len();
-        note(&mut self.slots, self.row.len(), name, slot)?;
+        note(&mut self.slots, self.row.len(), name.as_slice(), slot)?;
         let visible = Visible::new(name, slot);
         match self.row.push(Entered {
             visible,
@@ -158,11 +149,11 @@ impl Scope {
 }
 
 // The slot of the local or parameter with this name. All of these are looked at; the first counts.
-fn slot_among(row: &[Entered], name: Symbol) -> Option<u32>
-    ensures { result ≡ slot_of_symbol (map (λ e. e.visible) row.now) name.number }
+fn slot_among(row: &[Entered], name: &[u8]) -> Option<u32>
+    ensures { result ≡ spec.slot_named (map (λ e. e.visible) row.now) name.now }
 {
     for entered in row {
-        if entered.visible.name.is(name) {
+        if entered.visible.name.as_slice() == name {
             return Some(entered.visible.slot);
         }
     }
@@ -171,8 +162,8 @@ fn slot_among(row: &[Entered], name: Symbol) -> Option<u32>
 
 // Adds the name at this place of a scope to the index, if it is looked up by hash. An `Err` changes nothing.
 #[tactic(auto, unfolding(crate::specs::Near::near_count))]
-fn note(slots: &mut Index, place: usize, name: Symbol, slot: u32) -> Result<(), AllocError>
-    ensures ok { OnOk result (slots.new ≡ if nat_lt place near_count then slots.old else with_first nat_eq slots.old (name.number, slot)) }
+fn note(slots: &mut Index, place: usize, name: &[u8], slot: u32) -> Result<(), AllocError>
+    ensures ok { OnOk result (slots.new ≡ if nat_lt place near_count then slots.old else with_first bytes_eq slots.old (name.now, slot)) }
     ensures err { OnErr result (slots.new ≡ slots.old) }
 {
     if place < NEAR {
@@ -195,18 +186,19 @@ fn names_kept(place: usize, entered: &Entered) -> usize
 }
 
 // Makes these visible too.
-fn enter_all(scope: &mut Scope, row: &[Visible]) -> Result<(), AllocError>
+fn enter_all(alloc: Global, scope: &mut Scope, row: &[Visible]) -> Result<(), AllocError>
     ensures { OnOk result (scope.new ≡ scope.old ++ row.now) }
 {
     for visible in row {
-        enter(scope, visible.name, visible.slot)?;
+        enter(alloc, scope, visible.name.as_slice(), visible.slot)?;
     }
     Ok(())
 }
 
 /// Makes the local with this name, in the slot with this index, visible.
-pub fn enter(scope: &mut Scope, name: Symbol, slot: u32) -> Result<(), AllocError>
-    ensures { OnOk result (scope.new ≡ scope.old ++ record { name = name.number; slot = slot } ∷ []) }
+pub fn enter(alloc: Global, scope: &mut Scope, name: &[u8], slot: u32) -> Result<(), AllocError>
+    ensures { OnOk result (scope.new ≡ scope.old ++ record { name = name.now; slot = slot } ∷ []) }
 {
+    let name = ShortBytes::from_slice(alloc, name)?;
     scope.push(name, slot)
 }

@@ -3,7 +3,7 @@ use Rattle.std.proofs.{Common.{◌≡◌, ℕ, zero, suc, List, [], ◌∷◌, O
 use Rattle.std.specs.Prelude.{slice_get}
 use Rattle.pc_base.specs.declared.span.Span.{Span}
 use Rattle.pc_tree.specs.Tree as t
-use Rattle.pc_tree.specs.{Tree.TypeRef, declared.kinds.Op.Op, declared.kinds.EntityKind.EntityKind, declared.kinds.MethodWord.MethodWord}
+use Rattle.pc_tree.specs.{declared.written_names.TypeRef.TypeRef, declared.kinds.Op.Op, declared.kinds.EntityKind.EntityKind, declared.kinds.MethodWord.MethodWord}
 use Rattle.pc_tree.specs.declared.kinds.MethodWord.TheVariants as method
 use Rattle.pc_token.specs.{declared.kinds.Token.Token, declared.words.Word.Word}
 use Rattle.pc_token.specs.declared.words.Word.TheVariants as w

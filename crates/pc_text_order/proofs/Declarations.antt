@@ -1,7 +1,7 @@
 -- The places of an entity's declarations are starts of tokens that spell it.
 use Rattle.std.proofs.Common.{List, [], ◌∷◌, ◌++◌, map, Option, Some, None, inl, inr}
 use Rattle.pc_tree.specs.Tree as t
-use Rattle.pc_tree.specs.{Tree.{Name, TypeRef, ParamDef}, declared.kinds.EntityKind.EntityKind}
+use Rattle.pc_tree.specs.{declared.written_names.Name.Name, declared.written_names.TypeRef.TypeRef, declared.file.ParamDef.ParamDef, declared.kinds.EntityKind.EntityKind}
 use Rattle.pc_token.specs.declared.kinds.Token.{Token}
 use Rattle.pc_grammar.specs.{Spells.{SpellsReturns, SpellsParam, SpellsMoreParams, SpellsParamList, SpellsParams, SpellsField, SpellsMethod, SpellsMoreNames, SpellsNames, SpellsAlone, SpellsProvides, SpellsEntity}, Parts.{SpellsFields, SpellsMethods}}
 use Rattle.pc_names.specs.Laws.{name_start, result_places, field_places, param_places, method_places, declared_places}

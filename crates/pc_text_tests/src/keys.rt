@@ -1,4 +1,5 @@
 //! Which names of a file go into the key of its tables.
+use pc_keyed::keyed_by_names;
 use pc_test_inputs::{Wrong, tree_of};
 use std::alloc::{AllocError, Global};
 use std::hash::{BuildHasher, Hasher};
@@ -47,7 +48,7 @@ type Hashed = Result<u64, Wrong>;
 fn hash_of(alloc: Global, text: &[u8], letter: u8) -> Hashed {
     let text = with_letter(alloc, text, letter)?;
     let tree = tree_of(alloc, text.as_slice())?;
-    Ok(tree.symbols.key().build_hasher().finish())
+    Ok(keyed_by_names(&tree).build_hasher().finish())
 }
 
 // The place of the first text whose name is not in the key, and what a hash gives with one letter and with another.

@@ -1,23 +1,8 @@
 -- The tree as plain data: no pointers, and a separate type for each kind of list of subtrees.
 use Rattle.std.specs.Prelude.{ℕ, List, Bool, Option}
-use Rattle.pc_base.specs.{declared.span.Span.Span, Lists.Text}
+use Rattle.pc_base.specs.declared.span.Span.{Span}
 use Rattle.pc_caps.specs.declared.capability.Cap.{Cap}
-use Rattle.pc_tree.specs.{declared.kinds.Op.Op, declared.kinds.EntityKind.EntityKind, declared.kinds.MethodWord.MethodWord}
-
--- a name or a type name, as it is written
-pub record Name : Type 0 where
-  pub text : Text
-  pub span : Span
-
--- a written type, with its capability and its `^`, if they are written
-pub record TypeRef : Type 0 where
-  pub name : Name
-  pub cap : Option Cap
-  pub hat : Bool
-
-pub record ParamDef : Type 0 where
-  pub name : Name
-  pub ty : TypeRef
+use Rattle.pc_tree.specs.{declared.kinds.Op.Op, declared.kinds.EntityKind.EntityKind, declared.kinds.MethodWord.MethodWord, declared.written_names.Name.Name, declared.written_names.TypeRef.TypeRef, declared.file.ParamDef.ParamDef}
 
 mutual
   pub data Expr : Type 0 where

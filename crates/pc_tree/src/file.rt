@@ -4,13 +4,10 @@ use crate::kinds::{EntityKind, MethodWord};
 use crate::written_names::{Name, TypeRef};
 use pc_base::List;
 use pc_caps::Cap;
-use pc_symbols::Symbols;
 
 /// The tree of a whole source text.
 #[derive(Debug, Drop)]
 pub struct File {
-    /// The spellings of its names.
-    pub symbols: Symbols,
     pub entities: List<Entity>,
 }
 

@@ -5,7 +5,6 @@ ghost use Rattle.pc_tree.specs.View.{expr_view};
 
 use crate::expression::Expr;
 use pc_base::Span;
-use pc_symbols::Symbols;
 
 /// From the start of the first to the end of the second.
 pub fn join(first: Span, second: Span) -> Span
@@ -17,9 +16,9 @@ pub fn join(first: Span, second: Span) -> Span
     }
 }
 
-/// The span of an expression in the text. It does not depend on the spellings.
-pub fn span_of(symbols: &Symbols, expression: &Expr) -> Span
-    ensures { result ≡ spec.span_of (expr_view symbols.now expression.now) }
+/// The span of an expression in the text.
+pub fn span_of(expression: &Expr) -> Span
+    ensures { result ≡ spec.span_of (expr_view expression.now) }
 {
     match expression {
         Expr::Name(name) | Expr::TypeName(name) => name.span,

@@ -9,7 +9,7 @@ use Rattle.pc_names.specs.{Faults.{count_faults, cycle_faults, IsNotMemory, name
 use Rattle.pc_names.specs.Faults as spec
 use Rattle.pc_names.specs.Parts as parts
 use Rattle.pc_names.specs.declared.fault.NameFault.TheVariants as fault
-use Rattle.pc_tree.specs.{Kinds.first_own, Tree.{ParamDef, Name, TypeRef}}
+use Rattle.pc_tree.specs.{Kinds.first_own, declared.file.ParamDef.ParamDef, declared.written_names.Name.Name, declared.written_names.TypeRef.TypeRef}
 use Rattle.pc_tree.specs.Tree as t
 
 -- The first fault of the list, if there is one.

@@ -13,11 +13,11 @@ list_known-requires c = as_many c.args.file.now c.args.table.now c.requires.memb
 pub new-requires-4 : goal.new-requires-4
 new-requires-4 c =
     subst (λ (ks : List KnownEntity). length ks < 2 ^ 32)
-    (sym (c.in_ok-entities.ensures ∙ ap (λ es. built_in_known ++ known_rows 1 (map (entity_view c.args.file.now.symbols) es) (table_view c.args.file.now.symbols c.args.table.now)) c.as_slice.ensures ∙ known_all (file_view c.args.file.now) (table_view c.args.file.now.symbols c.args.table.now) c.requires.members))
+    (sym (c.in_ok-entities.ensures ∙ ap (λ es. built_in_known ++ known_rows 1 (map entity_view es) (table_view c.args.table.now)) c.as_slice.ensures ∙ known_all (file_view c.args.file.now) (table_view c.args.table.now) c.requires.members))
     (few_known (file_view c.args.file.now) c.args.names.now c.requires.collected)
 
 pub returns-clause-entities : goal.returns-clause-entities
 returns-clause-entities c =
     ok_part (λ (x : Context). x.entities) c.new-4.result _ (known_of (file_view c.args.file.now))
-    (c.in_ok-entities.ensures ∙ ap (λ es. built_in_known ++ known_rows 1 (map (entity_view c.args.file.now.symbols) es) (table_view c.args.file.now.symbols c.args.table.now)) c.as_slice.ensures ∙ known_all (file_view c.args.file.now) (table_view c.args.file.now.symbols c.args.table.now) c.requires.members)
+    (c.in_ok-entities.ensures ∙ ap (λ es. built_in_known ++ known_rows 1 (map entity_view es) (table_view c.args.table.now)) c.as_slice.ensures ∙ known_all (file_view c.args.file.now) (table_view c.args.table.now) c.requires.members)
     c.new-4.ensures

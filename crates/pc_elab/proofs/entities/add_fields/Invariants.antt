@@ -5,4 +5,4 @@ use Rattle.pc_elab.proofs.entities.add_fields.Given as goal
 
 abbrev pub invariant-loop-field : goal.invariant-loop-field
 invariant-loop-field l =
-    l.fn.list ++ map (core_field l.context.texts l.context.entities) (map (field_view l.symbols) l.fields) ≡ l.list ++ map (core_field l.context.texts l.context.entities) (map (field_view l.symbols) (drop l.field-index l.fields))
+    l.fn.list ++ map (core_field l.context.texts l.context.entities) (map field_view l.fields) ≡ l.list ++ map (core_field l.context.texts l.context.entities) (map field_view (drop l.field-index l.fields))

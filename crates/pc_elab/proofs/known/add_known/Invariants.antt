@@ -7,4 +7,4 @@ use Rattle.pc_elab.proofs.known.add_known.Given as goal
 
 abbrev pub invariant-loop-at : goal.invariant-loop-at
 invariant-loop-at l =
-    built_in_known ++ known_rows 1 (map (entity_view l.symbols) l.entities) (table_view l.symbols l.table) ≡ l.known ++ known_rows l.first (map (entity_view l.symbols) (drop l.at l.entities)) (table_view l.symbols (drop l.at l.table))
+    built_in_known ++ known_rows 1 (map entity_view l.entities) (table_view l.table) ≡ l.known ++ known_rows l.first (map entity_view (drop l.at l.entities)) (table_view (drop l.at l.table))

@@ -4,9 +4,8 @@ use Rattle.pc_file_spec.specs.Cores.{owned}
 use Rattle.pc_elab.specs.{Outcomes.{own_members, with_slots}, Views.parts_view}
 use Rattle.pc_members.specs.Views.{members_view}
 use Rattle.pc_elab.proofs.members.add_members.Given as goal
-use Rattle.pc_resolve.specs.Symbolic.{context_view}
 
 abbrev pub invariant-loop-member : goal.invariant-loop-member
 invariant-loop-member l =
-    (own_members (context_view l.symbols l.fn.context) (parts_view l.fn.parts) (map (owned l.number (entity_view l.symbols l.entity)) (members_view l.symbols l.members)) ≡ own_members (context_view l.symbols l.fn.context) (parts_view l.parts) (map (owned l.number (entity_view l.symbols l.entity)) (members_view l.symbols (drop l.member-index l.members))))
-    × ((context_view l.symbols l.context) ≡ with_slots (context_view l.symbols l.fn.context) l.context.slots)
+    (own_members l.fn.context (parts_view l.fn.parts) (map (owned l.number (entity_view l.entity)) (members_view l.members)) ≡ own_members l.fn.context (parts_view l.parts) (map (owned l.number (entity_view l.entity)) (members_view (drop l.member-index l.members))))
+    × (l.context ≡ with_slots l.fn.context l.context.slots)

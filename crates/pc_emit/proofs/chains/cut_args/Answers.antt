@@ -3,23 +3,22 @@ use Rattle.pc_tree.specs.View.{suffix_view}
 use Rattle.pc_tree.proofs.Views.{view_dot, view_args}
 use Rattle.pc_emit.proofs.{Walks.at_view, Suffixes.{before_none, before_dot, before_args}}
 use Rattle.pc_emit.proofs.chains.cut_args.Goals as goal
-use Rattle.pc_resolve.specs.Symbolic.{context_view}
 
 pub returns-in-Dot-clause-cut : goal.returns-in-Dot-clause-cut
 returns-in-Dot-clause-cut c =
     let some : 0 < c.args.left = omega (arith, c.if-left-eq0.false) in
     let within : c.args.left - 1 < length c.args.suffixes.now = omega (arith, some, c.requires.within) in
     rw (c.text_of.ensures, c.as_slice.ensures)
-    (before_dot (context_view c.args.symbols.now c.args.context.now) (map (suffix_view c.args.symbols.now) c.args.suffixes.now) c.args.left c.in-Dot.name some
-    (at_view (suffix_view c.args.symbols.now) c.args.suffixes.now (c.args.left - 1) c.index-suffixes-left.result _ within c.index-suffixes-left.is (ap (suffix_view c.args.symbols.now) c.in-Dot.is ∙ view_dot c.in-Dot.name)))
+    (before_dot c.args.context.now (map suffix_view c.args.suffixes.now) c.args.left c.in-Dot.name some
+    (at_view suffix_view c.args.suffixes.now (c.args.left - 1) c.index-suffixes-left.result _ within c.index-suffixes-left.is (ap suffix_view c.in-Dot.is ∙ view_dot c.in-Dot.name)))
 
 pub returns-in-Args-clause-cut : goal.returns-in-Args-clause-cut
 returns-in-Args-clause-cut c =
     let some : 0 < c.args.left = omega (arith, c.if-left-eq0.false) in
     let within : c.args.left - 1 < length c.args.suffixes.now = omega (arith, some, c.requires.within) in
     rw c.apply-in-Args.ensures
-    (before_args (context_view c.args.symbols.now c.args.context.now) (map (suffix_view c.args.symbols.now) c.args.suffixes.now) c.args.left _ _ some
-    (at_view (suffix_view c.args.symbols.now) c.args.suffixes.now (c.args.left - 1) c.index-suffixes-left.result _ within c.index-suffixes-left.is (ap (suffix_view c.args.symbols.now) c.in-Args.is ∙ view_args _ _)))
+    (before_args c.args.context.now (map suffix_view c.args.suffixes.now) c.args.left _ _ some
+    (at_view suffix_view c.args.suffixes.now (c.args.left - 1) c.index-suffixes-left.result _ within c.index-suffixes-left.is (ap suffix_view c.in-Args.is ∙ view_args _ _)))
 
 pub returns-then-left-eq0-clause-cut : goal.returns-then-left-eq0-clause-cut
-returns-then-left-eq0-clause-cut c = rw (c.apply.ensures, c.if-left-eq0.true) (before_none (context_view c.args.symbols.now c.args.context.now) (map (suffix_view c.args.symbols.now) c.args.suffixes.now))
+returns-then-left-eq0-clause-cut c = rw (c.apply.ensures, c.if-left-eq0.true) (before_none c.args.context.now (map suffix_view c.args.suffixes.now))

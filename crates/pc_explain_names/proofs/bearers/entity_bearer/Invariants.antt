@@ -4,4 +4,4 @@ use Rattle.pc_tree.specs.View.{entity_view}
 use Rattle.pc_explain_names.proofs.bearers.entity_bearer.Given as goal
 
 abbrev pub invariant-loop-entity : goal.invariant-loop-entity
-invariant-loop-entity l = entity_bearer l.bytes l.name l.at (map (entity_view l.symbols) (drop l.entity-index l.entities)) ≡ entity_bearer l.bytes l.name l.at (map (entity_view l.symbols) l.entities)
+invariant-loop-entity l = entity_bearer l.bytes l.name l.at (map entity_view (drop l.entity-index l.entities)) ≡ entity_bearer l.bytes l.name l.at (map entity_view l.entities)

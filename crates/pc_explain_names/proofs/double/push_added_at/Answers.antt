@@ -13,7 +13,7 @@ returns c =
     let whole = c.push_bytes-3.new.out.items in
     let here = line_and_column c.args.bytes.now c.args.at in
     let words = codes ", and a constructor `create` is added to " in
-    let name = piece (entity_view c.args.symbols.now c.args.entity.now).name.text in
+    let name = piece (entity_view c.args.entity.now).name.text in
     let last = codes ", which has none" ++ line_end in
     ok_after r c.args.out.now.items c.push_bytes.new.out.items whole (codes " at ") (here ++ (words ++ (name ++ last))) c.in_ok-push_bytes.ensures
     (ok_after r c.push_bytes.new.out.items c.push_place.new.out.items whole here (words ++ (name ++ last)) c.in_ok-push_place.ensures

@@ -6,4 +6,4 @@ use Rattle.pc_explain_names.proofs.rows.has_member.Given as goal
 
 abbrev pub invariant-loop-member : goal.invariant-loop-member
 invariant-loop-member l =
-    list_any (member_is_called l.name) (members_view l.symbols (drop l.member-index l.members)) ≡ list_any (member_is_called l.name) (members_view l.symbols l.members)
+    list_any (member_is_called l.name) (members_view (drop l.member-index l.members)) ≡ list_any (member_is_called l.name) (members_view l.members)

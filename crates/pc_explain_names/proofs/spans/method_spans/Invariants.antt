@@ -5,4 +5,4 @@ use Rattle.pc_explain_names.proofs.spans.method_spans.Given as goal
 
 abbrev pub invariant-loop-method : goal.invariant-loop-method
 invariant-loop-method l =
-    l.spans.items ++ map method_name_span (map (method_view l.symbols) (drop l.method-index l.methods)) ≡ map method_name_span (map (method_view l.symbols) l.methods)
+    l.spans.items ++ map method_name_span (map method_view (drop l.method-index l.methods)) ≡ map method_name_span (map method_view l.methods)

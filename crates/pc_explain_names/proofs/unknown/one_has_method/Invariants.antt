@@ -5,4 +5,4 @@ use Rattle.pc_explain_names.proofs.unknown.one_has_method.Given as goal
 
 abbrev pub invariant-loop-one : goal.invariant-loop-one
 invariant-loop-one l =
-    method_in l.bytes l.entity l.name (map (entity_view l.symbols) (drop l.one-index l.entities)) ≡ method_in l.bytes l.entity l.name (map (entity_view l.symbols) l.entities)
+    method_in l.bytes l.entity l.name (map entity_view (drop l.one-index l.entities)) ≡ method_in l.bytes l.entity l.name (map entity_view l.entities)

@@ -10,7 +10,7 @@ unfolding methods_part
 returns c =
     let r = c.push_bytes-2.result in
     let last = codes ")" ++ line_end in
-    let listed = member_names (members_view c.args.symbols.now c.args.members.now) in
+    let listed = member_names (members_view c.args.members.now) in
     ok_after r c.args.out.now.items c.push_bytes.new.out.items c.push_bytes-2.new.out.items (codes "), or directly before arguments one of its methods (") (listed ++ last) c.in_ok-push_bytes.ensures
     (ok_after r c.push_bytes.new.out.items c.push_member_names.new.out.items c.push_bytes-2.new.out.items listed last c.in_ok-push_member_names.ensures
     c.push_bytes-2.ensures)

@@ -94,7 +94,7 @@ abbrev pub invariant-some_args-more : goal.invariant-some_args-more
 invariant-some_args-more l = record {
   past : l.at ≤ l.to;
   there : StandsAtToken l.tokens l.to;
-  reads : Turn (r.after (is_sign s.Comma)) (r.expr_in l.left (r.inner l.left)) (onto.some_args (r.expr_in l.left (r.inner l.left)) (drop l.at l.tokens)) (drop l.to l.tokens) (map (expr_view l.spelled.symbols.now) l.args);
+  reads : Turn (r.after (is_sign s.Comma)) (r.expr_in l.left (r.inner l.left)) (onto.some_args (r.expr_in l.left (r.inner l.left)) (drop l.at l.tokens)) (drop l.to l.tokens) (map expr_view l.args);
 }
 
 abbrev pub decreases-some_args-more : goal.decreases-some_args-more
@@ -104,7 +104,7 @@ abbrev pub invariant-more_arms-more : goal.invariant-more_arms-more
 invariant-more_arms-more l = record {
   past : l.at ≤ l.to;
   there : StandsAtToken l.tokens l.to;
-  reads : Loop (r.at (is_word w.ElseifWord)) (r.arm w.ElseifWord (r.seq_in l.left (r.inner l.left))) (onto.more_arms (r.seq_in l.left (r.inner l.left)) (map (arm_view l.spelled.symbols.now) l.fn.so_far) (drop l.at l.tokens)) (drop l.to l.tokens) (map (arm_view l.spelled.symbols.now) l.arms);
+  reads : Loop (r.at (is_word w.ElseifWord)) (r.arm w.ElseifWord (r.seq_in l.left (r.inner l.left))) (onto.more_arms (r.seq_in l.left (r.inner l.left)) (map arm_view l.fn.so_far) (drop l.at l.tokens)) (drop l.to l.tokens) (map arm_view l.arms);
 }
 
 abbrev pub decreases-more_arms-more : goal.decreases-more_arms-more
@@ -114,7 +114,7 @@ abbrev pub invariant-items-more : goal.invariant-items-more
 invariant-items-more l = record {
   past : l.at ≤ l.to;
   there : StandsAtToken l.tokens l.to;
-  reads : Turn r.next_item (r.item (r.expr_in l.left (r.inner l.left))) (r.and_then (r.item (r.expr_in l.left (r.inner l.left)) (drop l.at l.tokens)) (λ x. onto.more_items l.left (r.inner l.left) (x ∷ []))) (drop l.to l.tokens) (map (item_view l.spelled.symbols.now) l.items);
+  reads : Turn r.next_item (r.item (r.expr_in l.left (r.inner l.left))) (r.and_then (r.item (r.expr_in l.left (r.inner l.left)) (drop l.at l.tokens)) (λ x. onto.more_items l.left (r.inner l.left) (x ∷ []))) (drop l.to l.tokens) (map item_view l.items);
 }
 
 abbrev pub decreases-items-more : goal.decreases-items-more
@@ -124,7 +124,7 @@ abbrev pub invariant-more_suffixes-more : goal.invariant-more_suffixes-more
 invariant-more_suffixes-more l = record {
   past : l.at ≤ l.to;
   there : StandsAtToken l.tokens l.to;
-  reads : Loop (r.at r.begins_suffix) (r.suffix l.left (r.inner l.left).expr) (onto.more_suffixes l.left (r.inner l.left) (map (suffix_view l.spelled.symbols.now) l.fn.so_far) (drop l.at l.tokens)) (drop l.to l.tokens) (map (suffix_view l.spelled.symbols.now) l.suffixes);
+  reads : Loop (r.at r.begins_suffix) (r.suffix l.left (r.inner l.left).expr) (onto.more_suffixes l.left (r.inner l.left) (map suffix_view l.fn.so_far) (drop l.at l.tokens)) (drop l.to l.tokens) (map suffix_view l.suffixes);
 }
 
 abbrev pub decreases-more_suffixes-more : goal.decreases-more_suffixes-more
@@ -134,7 +134,7 @@ abbrev pub invariant-more_terms-more : goal.invariant-more_terms-more
 invariant-more_terms-more l = record {
   past : l.at ≤ l.to;
   there : StandsAtToken l.tokens l.to;
-  reads : Loop (r.after (r.is_op l.op)) (r.term l.left (r.inner l.left)) (onto.more_terms l.left (r.inner l.left) l.op (map (expr_view l.spelled.symbols.now) l.fn.so_far) (drop l.at l.tokens)) (drop l.to l.tokens) (map (expr_view l.spelled.symbols.now) l.terms);
+  reads : Loop (r.after (r.is_op l.op)) (r.term l.left (r.inner l.left)) (onto.more_terms l.left (r.inner l.left) l.op (map expr_view l.fn.so_far) (drop l.at l.tokens)) (drop l.to l.tokens) (map expr_view l.terms);
 }
 
 abbrev pub decreases-more_terms-more : goal.decreases-more_terms-more

@@ -9,5 +9,5 @@ loop-i-preserved c =
     let s = c.loop-i.draws.state in
     let i = c.loop-i.i in
     let worker = c.in_ok-worker.ensures.worker ∙ drawn c.args.seed c.args.size i s draws in
-    let more = one_more c.args.seed c.args.size i (map (entity_view c.args.symbols.now) c.args.entities.now) (map (entity_view c.args.symbols.now) c.loop-i.entities) (entity_view c.args.symbols.now c.in_ok-worker.worker) all worker in
-    (c.next_worker.ensures.state ∙ two_draws c.args.seed i s draws, ap (map (entity_view c.args.symbols.now)) c.in_ok-push.ensures.ok ∙ map-append (entity_view c.args.symbols.now) c.loop-i.entities (c.in_ok-worker.worker ∷ []) ∙ more)
+    let more = one_more c.args.seed c.args.size i (map entity_view c.args.entities.now) (map entity_view c.loop-i.entities) (entity_view c.in_ok-worker.worker) all worker in
+    (c.next_worker.ensures.state ∙ two_draws c.args.seed i s draws, ap (map entity_view) c.in_ok-push.ensures.ok ∙ map-append entity_view c.loop-i.entities (c.in_ok-worker.worker ∷ []) ∙ more)

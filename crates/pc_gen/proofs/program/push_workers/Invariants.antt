@@ -6,4 +6,4 @@ use Rattle.pc_gen.specs.Program.{worker}
 use Rattle.pc_gen.proofs.program.push_workers.Given as goal
 
 abbrev pub invariant-loop-i : goal.invariant-loop-i
-invariant-loop-i l = (l.draws.state ≡ state l.seed (l.i * 2)) × (map (entity_view l.symbols) l.entities ≡ map (entity_view l.symbols) l.initial.entities ++ map (worker l.seed l.size) (range_with_len 0 l.i))
+invariant-loop-i l = (l.draws.state ≡ state l.seed (l.i * 2)) × (map entity_view l.entities ≡ map entity_view l.initial.entities ++ map (worker l.seed l.size) (range_with_len 0 l.i))

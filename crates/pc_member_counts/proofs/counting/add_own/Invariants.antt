@@ -5,4 +5,4 @@ use Rattle.pc_member_counts.proofs.counting.add_own.Given as goal
 
 abbrev pub invariant-loop-place : goal.invariant-loop-place
 invariant-loop-place l =
-    totals (map (entity_view l.symbols) l.all) l.counts ≡ l.sums ++ totals (map (entity_view l.symbols) (drop l.place l.all)) (drop l.place l.counts)
+    totals (map entity_view l.all) l.counts ≡ l.sums ++ totals (map entity_view (drop l.place l.all)) (drop l.place l.counts)

@@ -9,7 +9,7 @@ pub returns : goal.returns
 returns c =
     let es = (file_view c.args.file.now).entities in
     subst (λ xs. IfOk c.add_own.result (λ l. l ≡ xs))
-    (ap (λ all. totals (map (entity_view c.args.file.now.symbols) all) c.as_slice-2.result.now) c.as_slice.ensures
+    (ap (λ all. totals (map entity_view all) c.as_slice-2.result.now) c.as_slice.ensures
     ∙ ap (totals es) (c.as_slice-2.ensures ∙ c.in_ok-counts.ensures.got ∙ ap (λ p. map (got es p.names) es) c.in_ok-plan.ensures)
     ∙ all_counted es)
     c.add_own.ensures

@@ -14,8 +14,8 @@ returns c =
     let all = c.as_slice-all.result.now in
     let ls = c.as_slice-listings.result.now in
     subst (λ xs. IfOk c.add_fresh.result (λ l. l ≡ xs))
-    (ap (λ es. with_fresh c.args.start c.min-count.result c.as_slice-2.result.now 0 (map (entity_view c.args.file.now.symbols) es) ls c.args.counts.now) c.as_slice-all.ensures
+    (ap (λ es. with_fresh c.args.start c.min-count.result c.as_slice-2.result.now 0 (map entity_view es) ls c.args.counts.now) c.as_slice-all.ensures
     ∙ window_is file c.args.plan.now c.requires.plans c.args.start c.len.result c.min-count.result (length all) ls c.as_slice.result.now c.as_slice-2.result.now c.in_ok-table.table c.args.counts.now
-    c.as_slice-listings.ensures c.as_slice.ensures (ap length c.as_slice-all.ensures ∙ sym (length-map c.args.file.now.entities (entity_view c.args.file.now.symbols))) c.len.ensures c.min-count.ensures c.as_slice-2.ensures
-    (c.in_ok-table.ensures ∙ ap (λ es. filled c.args.start (map (entity_view c.args.file.now.symbols) es) ls c.as_slice.result.now (replicate (length all) nothing)) c.as_slice-all.ensures) c.requires.counts)
+    c.as_slice-listings.ensures c.as_slice.ensures (ap length c.as_slice-all.ensures ∙ sym (length-map c.args.file.now.entities entity_view)) c.len.ensures c.min-count.ensures c.as_slice-2.ensures
+    (c.in_ok-table.ensures ∙ ap (λ es. filled c.args.start (map entity_view es) ls c.as_slice.result.now (replicate (length all) nothing)) c.as_slice-all.ensures) c.requires.counts)
     c.add_fresh.ensures

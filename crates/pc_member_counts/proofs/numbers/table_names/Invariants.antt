@@ -5,4 +5,4 @@ use Rattle.pc_member_counts.proofs.numbers.table_names.Given as goal
 
 abbrev pub invariant-loop-entity : goal.invariant-loop-entity
 invariant-loop-entity l =
-    method_names [] (map (entity_view l.symbols) l.all) ≡ method_names l.names (map (entity_view l.symbols) (drop l.entity-index l.all))
+    method_names [] (map entity_view l.all) ≡ method_names l.names (map entity_view (drop l.entity-index l.all))

@@ -5,4 +5,4 @@ use Rattle.pc_member_counts.proofs.order.add_rank.Given as goal
 
 abbrev pub invariant-loop-place : goal.invariant-loop-place
 invariant-loop-place l =
-    l.fn.order ++ of_rank l.above l.rank 0 (map (entity_view l.symbols) l.all) ≡ l.order ++ of_rank l.above l.rank l.place (map (entity_view l.symbols) (drop l.place l.all))
+    l.fn.order ++ of_rank l.above l.rank 0 (map entity_view l.all) ≡ l.order ++ of_rank l.above l.rank l.place (map entity_view (drop l.place l.all))

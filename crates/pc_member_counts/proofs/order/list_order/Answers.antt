@@ -6,5 +6,5 @@ use Rattle.pc_member_counts.proofs.order.list_order.Goals as goal
 
 pub loop-rank-preserved : goal.loop-rank-preserved
 loop-rank-preserved c =
-    rank_turn c.args.above.now (map (entity_view c.args.symbols.now) c.args.all.now) (ordered c.args.above.now (map (entity_view c.args.symbols.now) c.args.all.now)) c.loop-rank.order c.add_rank.new.order c.loop-rank.rank (length c.args.all.now) (omega (arith, c.loop-rank-test.true))
+    rank_turn c.args.above.now (map entity_view c.args.all.now) (ordered c.args.above.now (map entity_view c.args.all.now)) c.loop-rank.order c.add_rank.new.order c.loop-rank.rank (length c.args.all.now) (omega (arith, c.loop-rank-test.true))
     c.loop-rank.invariant c.in_ok-add_rank.ensures

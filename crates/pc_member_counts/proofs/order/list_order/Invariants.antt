@@ -5,4 +5,4 @@ use Rattle.pc_member_counts.proofs.order.list_order.Given as goal
 
 abbrev pub invariant-loop-rank : goal.invariant-loop-rank
 invariant-loop-rank l =
-    ordered l.above (map (entity_view l.symbols) l.all) ≡ l.order ++ of_ranks l.above (map (entity_view l.symbols) l.all) l.rank (length l.all - l.rank)
+    ordered l.above (map entity_view l.all) ≡ l.order ++ of_ranks l.above (map entity_view l.all) l.rank (length l.all - l.rank)

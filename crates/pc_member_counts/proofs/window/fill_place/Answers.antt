@@ -8,14 +8,14 @@ pub trait_block-block-requires : goal.trait_block-block-requires
 trait_block-block-requires c =
     let e = c.in-Some.ensures.lookup in
     let l = c.in-Some-get.ensures.lookup in
-    c.requires c.args.place (entity_view c.args.symbols.now c.in-Some.entity.now) c.in-Some-get.listing.now (get_map (entity_view c.args.symbols.now) c.args.all.now c.args.place c.in-Some.entity.now (got_at c.args.all.now c.args.place c.in-Some.entity.now e.0 e.1))
+    c.requires c.args.place (entity_view c.in-Some.entity.now) c.in-Some-get.listing.now (get_map entity_view c.args.all.now c.args.place c.in-Some.entity.now (got_at c.args.all.now c.args.place c.in-Some.entity.now e.0 e.1))
     (got_at c.args.listings.now c.args.place c.in-Some-get.listing.now l.0 l.1)
-    ∙ length-map c.in-Some.entity.now.methods (method_view c.args.symbols.now)
+    ∙ length-map c.in-Some.entity.now.methods method_view
 
 pub returns : goal.returns
 returns c =
     let e = c.in-Some.ensures.lookup in
     let l = c.in-Some-get.ensures.lookup in
-    placed_is c.args.start (map (entity_view c.args.symbols.now) c.args.all.now) c.args.listings.now c.args.place (entity_view c.args.symbols.now c.in-Some.entity.now) c.in-Some-get.listing.now c.args.table.now c.as_slice.result.now c.put.new.table c.trait_block-block.result
-    (get_map (entity_view c.args.symbols.now) c.args.all.now c.args.place c.in-Some.entity.now (got_at c.args.all.now c.args.place c.in-Some.entity.now e.0 e.1)) (got_at c.args.listings.now c.args.place c.in-Some-get.listing.now l.0 l.1)
+    placed_is c.args.start (map entity_view c.args.all.now) c.args.listings.now c.args.place (entity_view c.in-Some.entity.now) c.in-Some-get.listing.now c.args.table.now c.as_slice.result.now c.put.new.table c.trait_block-block.result
+    (get_map entity_view c.args.all.now c.args.place c.in-Some.entity.now (got_at c.args.all.now c.args.place c.in-Some.entity.now e.0 e.1)) (got_at c.args.listings.now c.args.place c.in-Some-get.listing.now l.0 l.1)
     c.as_slice.ensures c.trait_block-block.ensures c.put.ensures

@@ -6,4 +6,4 @@ use Rattle.pc_member_counts.proofs.window.list_blocks.Given as goal
 
 abbrev pub invariant-loop-place : goal.invariant-loop-place
 invariant-loop-place l =
-    filled l.start (map (entity_view l.symbols) l.all) l.listings l.order (replicate (length l.all) nothing) ≡ filled l.start (map (entity_view l.symbols) l.all) l.listings (drop l.place-index l.order) l.table
+    filled l.start (map entity_view l.all) l.listings l.order (replicate (length l.all) nothing) ≡ filled l.start (map entity_view l.all) l.listings (drop l.place-index l.order) l.table

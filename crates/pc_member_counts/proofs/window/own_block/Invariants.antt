@@ -5,4 +5,4 @@ use Rattle.pc_member_counts.proofs.window.own_block.Given as goal
 
 abbrev pub invariant-loop-at : goal.invariant-loop-at
 invariant-loop-at l =
-    own_block l.start nothing l.numbers (map (method_view l.symbols) l.methods) ≡ own_block l.start l.block (drop l.at l.numbers) (map (method_view l.symbols) (drop l.at l.methods))
+    own_block l.start nothing l.numbers (map method_view l.methods) ≡ own_block l.start l.block (drop l.at l.numbers) (map method_view (drop l.at l.methods))

@@ -7,4 +7,4 @@ use Rattle.pc_members.proofs.constructors.has_constructor.Given as goal
 
 abbrev pub invariant-loop-method : goal.invariant-loop-method
 invariant-loop-method l =
-    list_any (λ (m : tree.Method). is_new m.word) (map (method_view l.symbols) l.methods) ≡ list_any (λ (m : tree.Method). is_new m.word) (map (method_view l.symbols) (drop l.method-index l.methods))
+    list_any (λ (m : tree.Method). is_new m.word) (map method_view l.methods) ≡ list_any (λ (m : tree.Method). is_new m.word) (map method_view (drop l.method-index l.methods))

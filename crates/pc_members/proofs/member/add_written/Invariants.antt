@@ -6,4 +6,4 @@ use Rattle.pc_members.proofs.member.add_written.Given as goal
 
 abbrev pub invariant-loop-method : goal.invariant-loop-method
 invariant-loop-method l =
-    members_view l.symbols l.fn.members ++ map spec.written (map (method_view l.symbols) l.methods) ≡ members_view l.symbols l.members ++ map spec.written (map (method_view l.symbols) (drop l.method-index l.methods))
+    members_view l.fn.members ++ map spec.written (map method_view l.methods) ≡ members_view l.members ++ map spec.written (map method_view (drop l.method-index l.methods))

@@ -2,8 +2,7 @@ use Rattle.std.proofs.Common.{◌≡◌, map, drop}
 use Rattle.pc_tree.specs.View.{method_view}
 use Rattle.pc_members.specs.{Members.method_texts, MemberLists.with_names}
 use Rattle.pc_members.proofs.texts.add_methods.Given as goal
-use Rattle.pc_symbols.specs.Spellings.{texts}
 
 abbrev pub invariant-loop-method : goal.invariant-loop-method
 invariant-loop-method l =
-    with_names (texts l.symbols l.fn.table) (method_texts (map (method_view l.symbols) l.methods)) ≡ with_names (texts l.symbols l.table) (method_texts (map (method_view l.symbols) (drop l.method-index l.methods)))
+    with_names l.fn.table (method_texts (map method_view l.methods)) ≡ with_names l.table (method_texts (map method_view (drop l.method-index l.methods)))

@@ -6,4 +6,4 @@ use Rattle.pc_names.proofs.counts.add_counts.Given as goal
 
 abbrev pub invariant-loop-at : goal.invariant-loop-at
 invariant-loop-at l =
-    (faults_by_count 0 (map (entity_view l.symbols) l.all) l.counts ≡ faults_by_count l.total (map (entity_view l.symbols) (drop l.at l.all)) (drop l.at l.counts)) × (l.total ≤ method_limit)
+    (faults_by_count 0 (map entity_view l.all) l.counts ≡ faults_by_count l.total (map entity_view (drop l.at l.all)) (drop l.at l.counts)) × (l.total ≤ method_limit)

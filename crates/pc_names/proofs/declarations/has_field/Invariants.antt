@@ -5,4 +5,4 @@ use Rattle.pc_names.proofs.declarations.has_field.Given as goal
 
 abbrev pub invariant-loop-field : goal.invariant-loop-field
 invariant-loop-field l =
-    is_among l.name (field_texts (map (field_view l.symbols) l.fields)) ≡ is_among l.name (field_texts (map (field_view l.symbols) (drop l.field-index l.fields)))
+    is_among l.name (field_texts (map field_view l.fields)) ≡ is_among l.name (field_texts (map field_view (drop l.field-index l.fields)))

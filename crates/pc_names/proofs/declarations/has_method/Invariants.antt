@@ -5,4 +5,4 @@ use Rattle.pc_names.proofs.declarations.has_method.Given as goal
 
 abbrev pub invariant-loop-method : goal.invariant-loop-method
 invariant-loop-method l =
-    is_among l.name (method_texts (map (method_view l.symbols) l.methods)) ≡ is_among l.name (method_texts (map (method_view l.symbols) (drop l.method-index l.methods)))
+    is_among l.name (method_texts (map method_view l.methods)) ≡ is_among l.name (method_texts (map method_view (drop l.method-index l.methods)))

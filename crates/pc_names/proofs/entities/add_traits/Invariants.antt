@@ -2,8 +2,7 @@ use Rattle.std.proofs.Common.{◌≡◌, map, drop}
 use Rattle.pc_tree.specs.View.{entity_view}
 use Rattle.pc_members.specs.MemberLists.{with_traits}
 use Rattle.pc_names.proofs.entities.add_traits.Given as goal
-use Rattle.pc_symbols.specs.Spellings.{texts}
 
 abbrev pub invariant-loop-entity : goal.invariant-loop-entity
 invariant-loop-entity l =
-    with_traits (texts l.symbols l.fn.table) (map (entity_view l.symbols) l.entities) ≡ with_traits (texts l.symbols l.table) (map (entity_view l.symbols) (drop l.entity-index l.entities))
+    with_traits l.fn.table (map entity_view l.entities) ≡ with_traits l.table (map entity_view (drop l.entity-index l.entities))

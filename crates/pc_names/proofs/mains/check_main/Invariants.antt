@@ -5,4 +5,4 @@ use Rattle.pc_names.proofs.mains.check_main.Given as goal
 
 abbrev pub invariant-loop-entity : goal.invariant-loop-entity
 invariant-loop-entity l =
-    main_faults (map (entity_view l.symbols) l.entities) ≡ main_faults (map (entity_view l.symbols) (drop l.entity-index l.entities))
+    main_faults (map entity_view l.entities) ≡ main_faults (map entity_view (drop l.entity-index l.entities))

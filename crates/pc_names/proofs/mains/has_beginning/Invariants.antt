@@ -6,4 +6,4 @@ use Rattle.pc_names.proofs.mains.has_beginning.Given as goal
 
 abbrev pub invariant-loop-method : goal.invariant-loop-method
 invariant-loop-method l =
-    list_any begins_program (map (method_view l.symbols) l.methods) ≡ list_any begins_program (map (method_view l.symbols) (drop l.method-index l.methods))
+    list_any begins_program (map method_view l.methods) ≡ list_any begins_program (map method_view (drop l.method-index l.methods))

@@ -6,8 +6,8 @@ use Rattle.pc_parse.proofs.entities.more_entities.Goals as goal
 pub more-init : goal.more-init
 more-init c = record {
   past = omega arith;
-  there = c.requires.stands;
-  reads = loop_starts _ _ (map (entity_view c.args.spelled.now.symbols.now) c.args.so_far) (drop c.args.at c.args.tokens.now);
+  there = c.requires;
+  reads = loop_starts _ _ (map entity_view c.args.so_far) (drop c.args.at c.args.tokens.now);
 }
 
 pub returns-in_err-one-clause-gives : goal.returns-in_err-one-clause-gives
@@ -21,16 +21,16 @@ pub more-preserved : goal.more-preserved
 more-preserved c =
     let l = c.more in
     let x = c.in_ok-one.one in
-    let views = ap (map (entity_view c.args.spelled.now.symbols.now)) c.in_ok-push.ensures.ok ∙ map_push (entity_view c.args.spelled.now.symbols.now) l.entities x in
+    let views = ap (map entity_view) c.in_ok-push.ensures.ok ∙ map_push entity_view l.entities x in
     let less : length (drop c.in_ok-one.after c.args.tokens.now) < length (drop l.to c.args.tokens.now) = simp length-drop (omega (arith, l.invariant.there.within, c.in-Some.ensures.there.0, c.in_ok-one.ensures.moves.past)) in
     record {
       past = omega (arith, l.invariant.past, c.in-Some.ensures.there.0, c.in_ok-one.ensures.moves.past);
       there = c.in_ok-one.ensures.moves.there;
-      reads = rw views (loop_goes_on _ _ _ (map (entity_view c.args.spelled.now.symbols.now) l.entities) (drop l.to c.args.tokens.now) (drop c.in-Some.next c.args.tokens.now) (drop c.in_ok-one.after c.args.tokens.now) (entity_view c.args.spelled.now.symbols.now x) l.invariant.reads (sym c.in-Some.ensures.value) c.in_ok-one.ensures.gives less);
+      reads = rw views (loop_goes_on _ _ _ (map entity_view l.entities) (drop l.to c.args.tokens.now) (drop c.in-Some.next c.args.tokens.now) (drop c.in_ok-one.after c.args.tokens.now) (entity_view x) l.invariant.reads (sym c.in-Some.ensures.value) c.in_ok-one.ensures.gives less);
     }
 
 pub returns-clause-gives : goal.returns-clause-gives
 returns-clause-gives c =
     let l = c.more in
     let some : 0 < length (drop l.to c.args.tokens.now) = simp length-drop (omega (arith, l.invariant.there.within)) in
-    loop_ends _ _ _ (map (entity_view c.args.spelled.now.symbols.now) l.entities) (drop l.to c.args.tokens.now) l.invariant.reads (sym c.in_default.ensures.value) some
+    loop_ends _ _ _ (map entity_view l.entities) (drop l.to c.args.tokens.now) l.invariant.reads (sym c.in_default.ensures.value) some

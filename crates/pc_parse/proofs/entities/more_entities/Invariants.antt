@@ -11,7 +11,7 @@ abbrev pub invariant-more : goal.invariant-more
 invariant-more l = record {
   past : l.at ≤ l.to;
   there : StandsAtToken l.tokens l.to;
-  reads : Loop (r.at f.begins_entity) (f.entity 199) (parts.more_entities (map (entity_view l.spelled.symbols.now) l.fn.so_far) (drop l.at l.tokens)) (drop l.to l.tokens) (map (entity_view l.spelled.symbols.now) l.entities);
+  reads : Loop (r.at f.begins_entity) (f.entity 199) (parts.more_entities (map entity_view l.fn.so_far) (drop l.at l.tokens)) (drop l.to l.tokens) (map entity_view l.entities);
 }
 
 abbrev pub decreases-more : goal.decreases-more

@@ -11,7 +11,7 @@ abbrev pub invariant-more : goal.invariant-more
 invariant-more l = record {
   past : l.at ≤ l.to;
   there : StandsAtToken l.tokens l.to;
-  reads : Loop (r.at f.begins_field) (f.some_field 199) (parts.all_fields (drop l.at l.tokens)) (drop l.to l.tokens) (map (field_view l.spelled.symbols.now) l.fields);
+  reads : Loop (r.at f.begins_field) (f.some_field 199) (parts.all_fields (drop l.at l.tokens)) (drop l.to l.tokens) (map field_view l.fields);
 }
 
 abbrev pub decreases-more : goal.decreases-more

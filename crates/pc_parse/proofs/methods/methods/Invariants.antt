@@ -11,7 +11,7 @@ abbrev pub invariant-more : goal.invariant-more
 invariant-more l = record {
   past : l.at ≤ l.to;
   there : StandsAtToken l.tokens l.to;
-  reads : Loop (r.at (f.begins_method l.kind)) (f.some_method 199 l.kind) (parts.all_methods l.kind (drop l.at l.tokens)) (drop l.to l.tokens) (map (method_view l.spelled.symbols.now) l.methods);
+  reads : Loop (r.at (f.begins_method l.kind)) (f.some_method 199 l.kind) (parts.all_methods l.kind (drop l.at l.tokens)) (drop l.to l.tokens) (map method_view l.methods);
 }
 
 abbrev pub decreases-more : goal.decreases-more

@@ -1,5 +1,4 @@
-use Rattle.std.proofs.Common.{◌-◌, ◌≤◌, length, drop, map}
-use Rattle.pc_tree.specs.View.{param_view}
+use Rattle.std.proofs.Common.{◌-◌, ◌≤◌, length, drop}
 use Rattle.pc_token.specs.declared.signs.Sign.TheVariants as s
 use Rattle.pc_token.specs.Words.{is_sign}
 use Rattle.pc_grammar.specs.Reading as r
@@ -13,7 +12,7 @@ abbrev pub invariant-more : goal.invariant-more
 invariant-more l = record {
   past : l.at ≤ l.to;
   there : StandsAtToken l.tokens l.to;
-  reads : Loop (r.after (is_sign s.Comma)) f.param (parts.more_params (map (param_view l.spelled.symbols.now) l.fn.so_far) (drop l.at l.tokens)) (drop l.to l.tokens) (map (param_view l.spelled.symbols.now) l.params);
+  reads : Loop (r.after (is_sign s.Comma)) f.param (parts.more_params l.fn.so_far (drop l.at l.tokens)) (drop l.to l.tokens) l.params;
 }
 
 abbrev pub decreases-more : goal.decreases-more

@@ -1,13 +1,12 @@
-use Rattle.std.proofs.{Common.{◌<◌, length, drop, map, sym, ap, ◌∙◌, arith, length-drop}, lemmas.List.map_push, lemmas.Result.err_from_is_err_and}
-use Rattle.pc_tree.specs.View.{name_view}
+use Rattle.std.proofs.{Common.{◌<◌, length, drop, sym, arith, length-drop}, lemmas.Result.err_from_is_err_and}
 use Rattle.pc_expr.proofs.Loops.{loop_starts, loop_goes_on, loop_ends, stops_here}
 use Rattle.pc_parse.proofs.provides.more_type_names.Goals as goal
 
 pub more-init : goal.more-init
 more-init c = record {
   past = omega arith;
-  there = c.requires.stands;
-  reads = loop_starts _ _ (map (name_view c.args.spelled.now.symbols.now) c.args.so_far) (drop c.args.at c.args.tokens.now);
+  there = c.requires;
+  reads = loop_starts _ _ c.args.so_far (drop c.args.at c.args.tokens.now);
 }
 
 pub returns-in_err-one-clause-gives : goal.returns-in_err-one-clause-gives
@@ -21,16 +20,16 @@ pub more-preserved : goal.more-preserved
 more-preserved c =
     let l = c.more in
     let x = c.in_ok-one.one in
-    let views = ap (map (name_view c.args.spelled.now.symbols.now)) c.in_ok-push.ensures.ok ∙ map_push (name_view c.args.spelled.now.symbols.now) l.names x in
+    let views = c.in_ok-push.ensures.ok in
     let less : length (drop c.in_ok-one.after c.args.tokens.now) < length (drop l.to c.args.tokens.now) = simp length-drop (omega (arith, l.invariant.there.within, c.in-Some.ensures.there.0, c.in_ok-one.ensures.moves.past)) in
     record {
       past = omega (arith, l.invariant.past, c.in-Some.ensures.there.0, c.in_ok-one.ensures.moves.past);
       there = c.in_ok-one.ensures.moves.there;
-      reads = rw views (loop_goes_on _ _ _ (map (name_view c.args.spelled.now.symbols.now) l.names) (drop l.to c.args.tokens.now) (drop c.in-Some.next c.args.tokens.now) (drop c.in_ok-one.after c.args.tokens.now) (name_view c.args.spelled.now.symbols.now x) l.invariant.reads (sym c.in-Some.ensures.value) c.in_ok-one.ensures.gives less);
+      reads = rw views (loop_goes_on _ _ _ l.names (drop l.to c.args.tokens.now) (drop c.in-Some.next c.args.tokens.now) (drop c.in_ok-one.after c.args.tokens.now) x l.invariant.reads (sym c.in-Some.ensures.value) c.in_ok-one.ensures.gives less);
     }
 
 pub returns-clause-gives : goal.returns-clause-gives
 returns-clause-gives c =
     let l = c.more in
     let some : 0 < length (drop l.to c.args.tokens.now) = simp length-drop (omega (arith, l.invariant.there.within)) in
-    loop_ends _ _ _ (map (name_view c.args.spelled.now.symbols.now) l.names) (drop l.to c.args.tokens.now) l.invariant.reads (sym c.in_default.ensures.value) some
+    loop_ends _ _ _ l.names (drop l.to c.args.tokens.now) l.invariant.reads (sym c.in_default.ensures.value) some

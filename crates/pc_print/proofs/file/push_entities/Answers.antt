@@ -10,10 +10,10 @@ pub loop-entity-preserved : goal.loop-entity-preserved
 loop-entity-preserved c =
     let l = c.loop-entity in
     let xs = c.args.entities.now in
-    let e = subst (λ ys. l.out.items ++ cond l.first (parts.printed_entities (map (entity_view c.args.symbols.now) ys)) (parts.more_entities (map (entity_view c.args.symbols.now) ys)) ≡ c.args.out.now.items ++ parts.printed_entities (map (entity_view c.args.symbols.now) c.args.entities.now)) (item_first xs l.entity-index c.entity-item.result c.loop-entity-test.true c.entity-item.is) l.invariant in
-    turn_between l.first _ _ _ (codes "\n\n") (text.printed_entity (entity_view c.args.symbols.now c.entity-item.result)) (parts.more_entities (map (entity_view c.args.symbols.now) (drop (l.entity-index + 1) xs))) _ c.in_ok-push_between.ensures c.in_ok-push_entity.ensures e
+    let e = subst (λ ys. l.out.items ++ cond l.first (parts.printed_entities (map entity_view ys)) (parts.more_entities (map entity_view ys)) ≡ c.args.out.now.items ++ parts.printed_entities (map entity_view c.args.entities.now)) (item_first xs l.entity-index c.entity-item.result c.loop-entity-test.true c.entity-item.is) l.invariant in
+    turn_between l.first _ _ _ (codes "\n\n") (text.printed_entity (entity_view c.entity-item.result)) (parts.more_entities (map entity_view (drop (l.entity-index + 1) xs))) _ c.in_ok-push_between.ensures c.in_ok-push_entity.ensures e
 
 pub returns : goal.returns
 returns c =
     let l = c.loop-entity in
-    nothing_left_between l.first _ _ (subst (λ ys. l.out.items ++ cond l.first (parts.printed_entities (map (entity_view c.args.symbols.now) ys)) (parts.more_entities (map (entity_view c.args.symbols.now) ys)) ≡ c.args.out.now.items ++ parts.printed_entities (map (entity_view c.args.symbols.now) c.args.entities.now)) (drop_all l.entity-index c.args.entities.now c.loop-entity-test.false) l.invariant)
+    nothing_left_between l.first _ _ (subst (λ ys. l.out.items ++ cond l.first (parts.printed_entities (map entity_view ys)) (parts.more_entities (map entity_view ys)) ≡ c.args.out.now.items ++ parts.printed_entities (map entity_view c.args.entities.now)) (drop_all l.entity-index c.args.entities.now c.loop-entity-test.false) l.invariant)

@@ -10,11 +10,11 @@ pub loop-field-preserved : goal.loop-field-preserved
 loop-field-preserved c =
     let l = c.loop-field in
     let xs = c.args.fields.now in
-    let e = subst (λ ys. l.out.items ++ parts.printed_fields (map (field_view c.args.symbols.now) ys) ≡ c.args.out.now.items ++ parts.printed_fields (map (field_view c.args.symbols.now) c.args.fields.now)) (item_first xs l.field-index c.field-item.result c.loop-field-test.true c.field-item.is) l.invariant in
-    turn _ _ (text.printed_field (field_view c.args.symbols.now c.field-item.result))
-    (parts.printed_fields (map (field_view c.args.symbols.now) (drop (l.field-index + 1) xs))) _ c.in_ok-push_field.ensures e
+    let e = subst (λ ys. l.out.items ++ parts.printed_fields (map field_view ys) ≡ c.args.out.now.items ++ parts.printed_fields (map field_view c.args.fields.now)) (item_first xs l.field-index c.field-item.result c.loop-field-test.true c.field-item.is) l.invariant in
+    turn _ _ (text.printed_field (field_view c.field-item.result))
+    (parts.printed_fields (map field_view (drop (l.field-index + 1) xs))) _ c.in_ok-push_field.ensures e
 
 pub returns : goal.returns
 returns c =
     let l = c.loop-field in
-    nothing_left _ _ (subst (λ ys. l.out.items ++ parts.printed_fields (map (field_view c.args.symbols.now) ys) ≡ c.args.out.now.items ++ parts.printed_fields (map (field_view c.args.symbols.now) c.args.fields.now)) (drop_all l.field-index c.args.fields.now c.loop-field-test.false) l.invariant)
+    nothing_left _ _ (subst (λ ys. l.out.items ++ parts.printed_fields (map field_view ys) ≡ c.args.out.now.items ++ parts.printed_fields (map field_view c.args.fields.now)) (drop_all l.field-index c.args.fields.now c.loop-field-test.false) l.invariant)

@@ -5,4 +5,4 @@ use Rattle.pc_print.proofs.member.push_lines.Given as goal
 
 abbrev pub invariant-loop-item : goal.invariant-loop-item
 invariant-loop-item l =
-    l.out.items ++ parts.printed_lines (items_view l.symbols (drop l.item-index l.items)) ≡ l.initial.out.items ++ parts.printed_lines (items_view l.symbols l.items)
+    l.out.items ++ parts.printed_lines (items_view (drop l.item-index l.items)) ≡ l.initial.out.items ++ parts.printed_lines (items_view l.items)

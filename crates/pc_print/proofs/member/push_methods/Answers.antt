@@ -10,11 +10,11 @@ pub loop-method-preserved : goal.loop-method-preserved
 loop-method-preserved c =
     let l = c.loop-method in
     let xs = c.args.methods.now in
-    let e = subst (λ ys. l.out.items ++ parts.printed_methods (map (method_view c.args.symbols.now) ys) ≡ c.args.out.now.items ++ parts.printed_methods (map (method_view c.args.symbols.now) c.args.methods.now)) (item_first xs l.method-index c.method-item.result c.loop-method-test.true c.method-item.is) l.invariant in
-    turn _ _ (text.printed_method (method_view c.args.symbols.now c.method-item.result))
-    (parts.printed_methods (map (method_view c.args.symbols.now) (drop (l.method-index + 1) xs))) _ c.in_ok-push_method.ensures e
+    let e = subst (λ ys. l.out.items ++ parts.printed_methods (map method_view ys) ≡ c.args.out.now.items ++ parts.printed_methods (map method_view c.args.methods.now)) (item_first xs l.method-index c.method-item.result c.loop-method-test.true c.method-item.is) l.invariant in
+    turn _ _ (text.printed_method (method_view c.method-item.result))
+    (parts.printed_methods (map method_view (drop (l.method-index + 1) xs))) _ c.in_ok-push_method.ensures e
 
 pub returns : goal.returns
 returns c =
     let l = c.loop-method in
-    nothing_left _ _ (subst (λ ys. l.out.items ++ parts.printed_methods (map (method_view c.args.symbols.now) ys) ≡ c.args.out.now.items ++ parts.printed_methods (map (method_view c.args.symbols.now) c.args.methods.now)) (drop_all l.method-index c.args.methods.now c.loop-method-test.false) l.invariant)
+    nothing_left _ _ (subst (λ ys. l.out.items ++ parts.printed_methods (map method_view ys) ≡ c.args.out.now.items ++ parts.printed_methods (map method_view c.args.methods.now)) (drop_all l.method-index c.args.methods.now c.loop-method-test.false) l.invariant)

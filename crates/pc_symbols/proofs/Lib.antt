@@ -1,4 +1,0 @@
-pub mod Shown
-pub mod Meanings
-pub mod Tables
-pub mod Beyond
