@@ -1,4 +1,5 @@
 pub mod Events
+pub mod Explore
 pub mod Judge
 pub mod Make
 pub mod Outcomes

@@ -11,6 +11,7 @@ ghost use Rattle.pc_top.specs.Inner.Asking.{AsksSo};
 mod check;
 mod events;
 mod explain;
+mod explore;
 mod judge;
 mod make;
 mod outcomes;
@@ -27,6 +28,7 @@ mod upgrade;
 use check::check_source;
 use events::tell_events;
 use explain::explain_source;
+use explore::explore_source;
 use judge::judge_source;
 use make::make_program;
 use outcomes::tell_outcomes;
@@ -93,6 +95,9 @@ pub fn run_command<F: Files, O: Sink, R: Referee>(
         Command::Play { source, seed } => play_source(alloc, files, out, source, seed),
         Command::Outcomes { source, count } => {
             put_answer(out, tell_outcomes(alloc, files, source, count))
+        }
+        Command::Explore { source, count } => {
+            put_answer(out, explore_source(alloc, files, source, count))
         }
     }
 }

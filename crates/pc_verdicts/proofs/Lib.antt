@@ -14,6 +14,7 @@ pub mod Derived
 pub mod Running
 pub mod Swapping
 pub mod Tabled
+pub mod Explored
 pub mod Deciding
 pub mod Chains
 pub mod Sending

@@ -1,0 +1,5 @@
+pub mod Results
+pub mod Findings
+pub mod Tables
+pub mod Laws
+pub mod Inner
