@@ -26,7 +26,6 @@ LATER_COMMANDS = {
     "schedule": [("pc_top", "Commands/Schedule"), ("pc_commands", "Schedule")],
     "play": [("pc_top", "Commands/Play"), ("pc_commands", "Play")],
     "outcomes": [("pc_top", "Commands/Outcomes"), ("pc_commands", "Outcomes")],
-    "explore": [("pc_top", "Commands/Explore"), ("pc_commands", "Explore")],
 }
 
 

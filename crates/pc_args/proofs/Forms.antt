@@ -4,7 +4,7 @@ use Rattle.std.specs.Prelude.{codes, find, if◌then◌else◌, option_and_then}
 use Rattle.clap.specs.{Simple.{App, Shape, argument_words, built, entered, label_of, names_of, rows_at}, Walk.{answers_to, stop_after}, Words.{Row, fault_of, subcommand_of, takes}}
 use Rattle.clap.proofs.OnLiterals.{clap_on_literals}
 use Rattle.pc_base.specs.Lists.{Text}
-use Rattle.pc_args.specs.{Asked.{Asked, check, command_of, events, explain, explore, has_fault, is_refused, judge, make, asked_by_name, outcomes, places, play, run, schedule_of, sends, show, swap, trace, upgrade}, Forms.{AskFor, WrittenFormsAreTaken, check_words, events_words, explain_words, explore_words, is_plain, judge_words, make_words, outcomes_words, places_words, play_words, run_words, schedule_words, sends_words, show_words, swap_words, trace_words, upgrade_words}, Line.rcap}
+use Rattle.pc_args.specs.{Asked.{Asked, check, command_of, events, explain, has_fault, is_refused, judge, make, asked_by_name, outcomes, places, play, run, schedule_of, sends, show, swap, trace, upgrade}, Forms.{AskFor, WrittenFormsAreTaken, check_words, events_words, explain_words, is_plain, judge_words, make_words, outcomes_words, places_words, play_words, run_words, schedule_words, sends_words, show_words, swap_words, trace_words, upgrade_words}, Line.rcap}
 
 check_taken : (c : ℕ) (rest : Text) → nat_eq c 45 ≡ false → takes rcap (check_words (c ∷ rest)) ≡ true
 unfolding clap_on_literals
@@ -138,15 +138,6 @@ outcomes_found : (c d : ℕ) (rest more : Text) → nat_eq c 45 ≡ false → na
 unfolding clap_on_literals
 outcomes_found c d rest more plain also = simp plain (simp also refl)
 
-explore_taken : (c d : ℕ) (rest more : Text) → nat_eq c 45 ≡ false → nat_eq d 45 ≡ false → takes rcap (explore_words (c ∷ rest) (d ∷ more)) ≡ true
-unfolding clap_on_literals
-explore_taken c d rest more plain also = simp plain (simp also refl)
-
-explore_found : (c d : ℕ) (rest more : Text) → nat_eq c 45 ≡ false → nat_eq d 45 ≡ false
-    → option_and_then asked_by_name (subcommand_of rcap (explore_words (c ∷ rest) (d ∷ more))) ≡ Some (explore (c ∷ rest) (d ∷ more))
-unfolding clap_on_literals
-explore_found c d rest more plain also = simp plain (simp also refl)
-
 -- Words that are taken are not refused.
 unrefused : (words : List Text) → takes rcap words ≡ true → is_refused words ≡ false
 unfolding is_refused
@@ -206,11 +197,6 @@ outcomes_asks : (c d : ℕ) (rest more : Text) → nat_eq c 45 ≡ false → nat
 outcomes_asks c d rest more plain also =
     let t = outcomes_taken c d rest more plain also in
     (t, read_from (outcomes_words (c ∷ rest) (d ∷ more)) (outcomes (c ∷ rest) (d ∷ more)) t (outcomes_found c d rest more plain also))
-
-explore_asks : (c d : ℕ) (rest more : Text) → nat_eq c 45 ≡ false → nat_eq d 45 ≡ false → AskFor (explore_words (c ∷ rest) (d ∷ more)) (explore (c ∷ rest) (d ∷ more))
-explore_asks c d rest more plain also =
-    let t = explore_taken c d rest more plain also in
-    (t, read_from (explore_words (c ∷ rest) (d ∷ more)) (explore (c ∷ rest) (d ∷ more)) t (explore_found c d rest more plain also))
 
 checks : (source : Text) → is_plain source ≡ true → AskFor (check_words source) (check source)
 checks [] e = let bad : false ≡ true = e in cc
@@ -325,16 +311,8 @@ tables (c ∷ rest) (d ∷ more) e f =
     let also : nat_eq d 45 ≡ false = not-true (nat_eq d 45) f in
     outcomes_asks c d rest more plain also
 
-explorations : (source count : Text) → is_plain source ≡ true → is_plain count ≡ true → AskFor (explore_words source count) (explore source count)
-explorations [] count e f = let bad : false ≡ true = e in cc
-explorations (c ∷ rest) [] e f = let bad : false ≡ true = f in cc
-explorations (c ∷ rest) (d ∷ more) e f =
-    let plain : nat_eq c 45 ≡ false = not-true (nat_eq c 45) e in
-    let also : nat_eq d 45 ≡ false = not-true (nat_eq d 45) f in
-    explore_asks c d rest more plain also
-
 pub forms_taken : WrittenFormsAreTaken
-forms_taken = record { checks = checks; judges = judges; runs = runs; shows = shows; makes = makes; swaps = swaps; traces = traces; sendings = sendings; upgrades = upgrades; schedules = schedules; plays = plays; tables = tables; explorations = explorations; placings = placings; explanations = explanations; tellings = tellings }
+forms_taken = record { checks = checks; judges = judges; runs = runs; shows = shows; makes = makes; swaps = swaps; traces = traces; sendings = sendings; upgrades = upgrades; schedules = schedules; plays = plays; tables = tables; placings = placings; explanations = explanations; tellings = tellings }
 
 -- ---- each subcommand asks for something
 
@@ -407,11 +385,8 @@ events_known rows e = cc
 explain_known : Asks (codes "explain")
 explain_known rows e = cc
 
-explore_known : Asks (codes "explore")
-explore_known rows e = cc
-
 -- Words that ask for nothing have no subcommand.
 pub nothing_asked : (words : List Text) → option_and_then asked_by_name (subcommand_of rcap words) ≡ None → subcommand_of rcap words ≡ None
 nothing_asked words e =
     let stop = stop_after (built rcap).top.rules (names_of (built rcap)) (argument_words rcap words) in
-    enters (built rcap) stop (check_known, (judge_known, (run_known, (show_known, (make_known, (swap_known, (trace_known, (sends_known, (upgrade_known, (schedule_known, (play_known, (outcomes_known, (places_known, (events_known, (explain_known, (explore_known, tt)))))))))))))))) e
+    enters (built rcap) stop (check_known, (judge_known, (run_known, (show_known, (make_known, (swap_known, (trace_known, (sends_known, (upgrade_known, (schedule_known, (play_known, (outcomes_known, (places_known, (events_known, (explain_known, tt))))))))))))))) e

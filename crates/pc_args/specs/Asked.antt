@@ -25,7 +25,6 @@ pub data Asked : Type 0 where
   schedule_of : Text → Text → Asked
   play : Text → Text → Asked
   outcomes : Text → Text → Asked
-  explore : Text → Text → Asked
 
 -- the value of the argument with this name
 abbrev pub argument_value : Text → List Row → Text
@@ -49,7 +48,6 @@ asked_by_name p = if bytes_eq p.0 (codes "check") then Some (check (argument_val
     else if bytes_eq p.0 (codes "schedule") then Some (schedule_of (argument_value (codes "SRC") p.1) (argument_value (codes "SEED") p.1))
     else if bytes_eq p.0 (codes "play") then Some (play (argument_value (codes "SRC") p.1) (argument_value (codes "SEED") p.1))
     else if bytes_eq p.0 (codes "outcomes") then Some (outcomes (argument_value (codes "SRC") p.1) (argument_value (codes "COUNT") p.1))
-    else if bytes_eq p.0 (codes "explore") then Some (explore (argument_value (codes "SRC") p.1) (argument_value (codes "COUNT") p.1))
     else None
 
 -- whether there is a fault among these

@@ -1,5 +1,5 @@
 -- What the commands that are read from words ask for.
-use Rattle.pc_args.specs.{declared.words.Command.Command, declared.words.Command.TheVariants.{Check, Judge, Run, Show, Make, Swap, Trace, Sends, Upgrade, Schedule, Play, Outcomes, Places, Events, Explain, Explore}, Asked.{Asked, check, judge, run, show, make, swap, trace, events, places, explain, sends, upgrade, schedule_of, play, outcomes, explore}}
+use Rattle.pc_args.specs.{declared.words.Command.Command, declared.words.Command.TheVariants.{Check, Judge, Run, Show, Make, Swap, Trace, Sends, Upgrade, Schedule, Play, Outcomes, Places, Events, Explain}, Asked.{Asked, check, judge, run, show, make, swap, trace, events, places, explain, sends, upgrade, schedule_of, play, outcomes}}
 
 abbrev pub asked_by : Command → Asked
 asked_by (Check source) = check source.now
@@ -17,4 +17,3 @@ asked_by (Upgrade source derivation) = upgrade source.now derivation.now
 asked_by (Schedule source seed) = schedule_of source.now seed.now
 asked_by (Play source seed) = play source.now seed.now
 asked_by (Outcomes source count) = outcomes source.now count.now
-asked_by (Explore source count) = explore source.now count.now

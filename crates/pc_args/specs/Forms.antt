@@ -2,7 +2,7 @@
 use Rattle.std.specs.Prelude.{◌≡◌, ◌==◌, Bool, true, false, not, List, [], ◌∷◌, Some, codes}
 use Rattle.clap.specs.Words.{takes}
 use Rattle.pc_base.specs.Lists.{Text}
-use Rattle.pc_args.specs.{Asked.{Asked, check, command_of, events, explain, explore, judge, make, outcomes, places, play, run, schedule_of, sends, show, swap, trace, upgrade}, Line.rcap}
+use Rattle.pc_args.specs.{Asked.{Asked, check, command_of, events, explain, judge, make, outcomes, places, play, run, schedule_of, sends, show, swap, trace, upgrade}, Line.rcap}
 
 -- A name or number that is not empty and does not begin with `-`.
 abbrev pub is_plain : Text → Bool
@@ -54,9 +54,6 @@ play_words source seed = codes "play" ∷ source ∷ seed ∷ []
 abbrev pub outcomes_words : Text → Text → List Text
 outcomes_words source count = codes "outcomes" ∷ source ∷ count ∷ []
 
-abbrev pub explore_words : Text → Text → List Text
-explore_words source count = codes "explore" ∷ source ∷ count ∷ []
-
 -- The command line takes the words, and this is what they ask for.
 abbrev pub AskFor : List Text → Asked → Type 0
 AskFor words asked = (takes rcap words ≡ true) × (command_of words ≡ Some asked)
@@ -86,5 +83,3 @@ pub record WrittenFormsAreTaken : Type 0 where
   pub plays : (source seed : Text) → is_plain source ≡ true → is_plain seed ≡ true → AskFor (play_words source seed) (play source seed)
   pub tables : (source count : Text) → is_plain source ≡ true → is_plain count ≡ true
       → AskFor (outcomes_words source count) (outcomes source count)
-  pub explorations : (source count : Text) → is_plain source ≡ true → is_plain count ≡ true
-      → AskFor (explore_words source count) (explore source count)

@@ -30,8 +30,7 @@ subcommands =
     ∷ subcommand (codes "outcomes") (codes "SRC" ∷ codes "COUNT" ∷ [])
     ∷ subcommand (codes "places") (codes "SRC" ∷ [])
     ∷ subcommand (codes "events") (codes "SRC" ∷ codes "SCHED" ∷ [])
-    ∷ subcommand (codes "explain") (codes "SRC" ∷ [])
-    ∷ subcommand (codes "explore") (codes "SRC" ∷ codes "COUNT" ∷ []) ∷ []
+    ∷ subcommand (codes "explain") (codes "SRC" ∷ []) ∷ []
 
 abbrev pub rcap : App
 rcap = fold (λ line leaf. with_subcommand line leaf.top) bare subcommands

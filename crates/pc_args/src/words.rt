@@ -16,7 +16,7 @@ use clap::{Arg, ArgMatches, Error};
 use std::alloc::{AllocError, Global};
 
 // The subcommands in their order, each with its arguments.
-const SUBCOMMANDS: [(&str, &[&str]); 16] = [
+const SUBCOMMANDS: [(&str, &[&str]); 15] = [
     ("check", &["SRC"]),
     ("judge", &["SRC", "DERIV"]),
     ("run", &["SRC", "SCHED"]),
@@ -32,7 +32,6 @@ const SUBCOMMANDS: [(&str, &[&str]); 16] = [
     ("places", &["SRC"]),
     ("events", &["SRC", "SCHED"]),
     ("explain", &["SRC"]),
-    ("explore", &["SRC", "COUNT"]),
 ];
 
 /// What words ask for, with names and numbers as written.
@@ -106,11 +105,6 @@ pub enum Command<'a> {
     },
     /// To play a source by some seeds, and to write each different outcome once.
     Outcomes {
-        source: &'a str,
-        count: &'a str,
-    },
-    /// To search for all outcomes of a source, among at most so many orders.
-    Explore {
         source: &'a str,
         count: &'a str,
     },
@@ -278,10 +272,6 @@ fn command_in<'a>(matches: &ArgMatches<'a>) -> Option<Command<'a>>
             seed: value_of(own, "SEED"),
         }),
         "outcomes" => Some(Command::Outcomes {
-            source: value_of(own, "SRC"),
-            count: value_of(own, "COUNT"),
-        }),
-        "explore" => Some(Command::Explore {
             source: value_of(own, "SRC"),
             count: value_of(own, "COUNT"),
         }),

@@ -5,7 +5,6 @@ mod InOrder
 mod MadeEnds
 pub mod Neighbouring
 pub mod OneEvents
-pub mod OneExplored
 pub mod OneOutcome
 pub mod OneSwap
 pub mod OneTable

@@ -1,5 +1,4 @@
 pub mod Events
-pub mod Explore
 pub mod Judge
 pub mod Make
 pub mod Outcomes

@@ -13,8 +13,6 @@
 //! - `swap`: the text reports on the two turns at a place (`Swapping`), and which words are a place (`IsPlace`).
 //! - `outcomes`: the text is that of the table of the outcomes (`OutcomesTelling`), and which words are a count
 //!   (`IsCount`).
-//! - `explore`: the text is that of all outcomes that the search finds, or the line names the first limit that it passes
-//!   (`ExploreTelling`), and which words are a count of orders (`IsOrderCount`).
 //! - `sends`: the text is that of the one table of who sends what (`IsSendsText`).
 //! - `check`, `upgrade`: the text is that of an annotation, in version 1 and in version 2.
 //!
@@ -26,7 +24,6 @@
 
 mod check;
 mod events;
-mod explore;
 mod make;
 mod outcomes;
 mod play;
@@ -40,7 +37,6 @@ mod upgrade;
 
 pub use check::write_derivation;
 pub use events::tell_turns;
-pub use explore::{order_count_of, write_explored};
 pub use make::{read_numbers, run_generated};
 pub use outcomes::{count_of, write_outcomes};
 pub use play::play_core;

@@ -1,11 +1,10 @@
 -- The rooms, one for each command.
-use Rattle.pc_args.specs.Asked.{Asked, check, events, explain, explore, judge, make, outcomes, places, play, run, schedule_of, sends, show, swap, trace, upgrade}
+use Rattle.pc_args.specs.Asked.{Asked, check, events, explain, judge, make, outcomes, places, play, run, schedule_of, sends, show, swap, trace, upgrade}
 use Rattle.pc_refusals.specs.Verdict.{Files}
-use Rattle.pc_top.proofs.{Room.Room, Rooms.Check.check_room, Rooms.Events.events_room, Rooms.Explain.explain_room, Rooms.Explore.explore_room, Rooms.Judge.judge_room, Rooms.Make.make_room, Rooms.Outcomes.outcomes_room, Rooms.Places.places_room, Rooms.Play.play_room, Rooms.Run.run_room, Rooms.Schedule.schedule_room, Rooms.Sends.sends_room, Rooms.Show.show_room, Rooms.Swap.swap_room, Rooms.Trace.trace_room, Rooms.Upgrade.upgrade_room}
+use Rattle.pc_top.proofs.{Room.Room, Rooms.Check.check_room, Rooms.Events.events_room, Rooms.Explain.explain_room, Rooms.Judge.judge_room, Rooms.Make.make_room, Rooms.Outcomes.outcomes_room, Rooms.Places.places_room, Rooms.Play.play_room, Rooms.Run.run_room, Rooms.Schedule.schedule_room, Rooms.Sends.sends_room, Rooms.Show.show_room, Rooms.Swap.swap_room, Rooms.Trace.trace_room, Rooms.Upgrade.upgrade_room}
 pub mod Check
 pub mod Events
 pub mod Explain
-pub mod Explore
 pub mod Judge
 pub mod Make
 pub mod Outcomes
@@ -35,4 +34,3 @@ room_of files (upgrade source derivation) = upgrade_room files source derivation
 room_of files (schedule_of source seed) = schedule_room files source seed
 room_of files (play source seed) = play_room files source seed
 room_of files (outcomes source count) = outcomes_room files source count
-room_of files (explore source count) = explore_room files source count

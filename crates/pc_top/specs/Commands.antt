@@ -2,7 +2,6 @@
 pub mod Check
 pub mod Events
 pub mod Explain
-pub mod Explore
 pub mod Judge
 pub mod Make
 pub mod Outcomes
@@ -17,11 +16,11 @@ pub mod Trace
 pub mod Upgrade
 use Rattle.std.specs.Prelude.{◌≡◌, Bool, Option, Some, None}
 use Rattle.pc_base.specs.Lists.{Text}
-use Rattle.pc_args.specs.Asked.{Asked, check, events, explain, explore, judge, make, outcomes, places, play, run, schedule_of, sends, show, swap, trace, upgrade}
+use Rattle.pc_args.specs.Asked.{Asked, check, events, explain, judge, make, outcomes, places, play, run, schedule_of, sends, show, swap, trace, upgrade}
 use Rattle.pc_io.specs.Sink.{Change}
 use Rattle.pc_refusal_lines.specs.Lines.{usage_line}
 use Rattle.pc_refusals.specs.Verdict.{Files, Verdict, refused}
-use Rattle.pc_top.specs.{Commands.Check.check_meaning, Commands.Events.events_meaning, Commands.Explain.explain_meaning, Commands.Explore.explore_meaning, Commands.Judge.judge_meaning, Commands.Make.make_meaning, Commands.Outcomes.outcomes_meaning, Commands.Places.places_meaning, Commands.Play.play_meaning, Commands.Run.run_meaning, Commands.Schedule.schedule_meaning, Commands.Sends.sends_meaning, Commands.Show.show_meaning, Commands.Swap.swap_meaning, Commands.Trace.trace_meaning, Commands.Upgrade.upgrade_meaning, Meaning.CommandMeaning}
+use Rattle.pc_top.specs.{Commands.Check.check_meaning, Commands.Events.events_meaning, Commands.Explain.explain_meaning, Commands.Judge.judge_meaning, Commands.Make.make_meaning, Commands.Outcomes.outcomes_meaning, Commands.Places.places_meaning, Commands.Play.play_meaning, Commands.Run.run_meaning, Commands.Schedule.schedule_meaning, Commands.Sends.sends_meaning, Commands.Show.show_meaning, Commands.Swap.swap_meaning, Commands.Trace.trace_meaning, Commands.Upgrade.upgrade_meaning, Meaning.CommandMeaning}
 
 abbrev pub meaning_of : Asked → CommandMeaning
 meaning_of (check source) = check_meaning source
@@ -39,7 +38,6 @@ meaning_of (upgrade source derivation) = upgrade_meaning source derivation
 meaning_of (schedule_of source seed) = schedule_meaning source seed
 meaning_of (play source seed) = play_meaning source seed
 meaning_of (outcomes source count) = outcomes_meaning source count
-meaning_of (explore source count) = explore_meaning source count
 
 -- A command's verdict. Words that the command line does not take are refused with status 2.
 abbrev pub IsVerdictOf : Files → Option Asked → Verdict → Type 0

@@ -1,10 +1,9 @@
 -- Laws of verdicts and of what derivations are for.
-use Rattle.std.specs.Prelude.{ℕ, ◌≡◌, List, Some, Ok}
+use Rattle.std.specs.Prelude.{ℕ, ◌≡◌, List, Some}
 use Rattle.pc_ann.specs.declared.annotation.Ann.{Ann}
 use Rattle.pc_core.specs.CoreData.{CoreData}
 use Rattle.pc_noted_receivers.specs.Noted.{noted_entities}
 use Rattle.pc_valid.specs.Valid.{Valid}
-use Rattle.pc_search.specs.{declared.found.Found.Found, Laws.IsWhole, Tables.explored}
 use Rattle.pc_sends.specs.{Tables.IsTable, declared.table.Table.Table}
 use Rattle.pc_base.specs.Lists.{Text}
 use Rattle.pc_args.specs.Asked.{check, judge, upgrade, command_of}
@@ -18,10 +17,6 @@ abbrev pub TablesTell : Type 0
 TablesTell =
     (bytes : Text) (core : CoreData) (ann : Ann) (table : Table) → CoreOf bytes core → Valid core ann → IsTable core (noted_entities ann) table
     → NamesAreThere core table × TellsEveryRun core table
-
--- What the search of a core with a derivation finds is whole.
-abbrev pub FoundIsWhole : Type 0
-FoundIsWhole = (bytes : Text) (core : CoreData) (ann : Ann) (count : ℕ) (found : Found) → CoreOf bytes core → Valid core ann → explored core count ≡ Ok found → IsWhole core found
 
 -- A source whose core has a derivation is safe.
 abbrev pub DerivableIsSafe : Type 0

@@ -1,9 +1,9 @@
 -- What is on out after a command has passed all its stages.
 use Rattle.std.specs.Prelude.{ℕ, ◌≡◌, Option, Some, List, IfSome}
 use Rattle.pc_base.specs.Lists.{Text}
-use Rattle.pc_args.specs.Asked.{explore, swap, trace, command_of}
+use Rattle.pc_args.specs.Asked.{swap, trace, command_of}
 use Rattle.pc_io.specs.Sink.{Change}
-use Rattle.pc_top.specs.{Commands.OnOutOf, Commands.Explore.WritesAllOutcomes, Commands.Swap.WritesSwap, Commands.Trace.WritesTrace}
+use Rattle.pc_top.specs.{Commands.OnOutOf, Commands.Swap.WritesSwap, Commands.Trace.WritesTrace}
 use Rattle.pc_commands.specs.Swap.{IsPlace}
 
 -- What the command of the words writes, if the bytes of its files are known: the source's derivation, `accepted`, the
@@ -11,8 +11,8 @@ use Rattle.pc_commands.specs.Swap.{IsPlace}
 -- or the numbers of the program that it generates, and the text of its run; or the schedule with two turns exchanged or
 -- why they keep their order; or the accesses or the events of the run with their clocks; or the lines of who sends what,
 -- which are right about every run; or a derivation in version 2 of its text; or the schedule that a seed chooses, the
--- text of its run, or the table of the outcomes of the seeds below a count; or all outcomes that a search finds. `swap`,
--- `trace` and `events` write that, or nothing.
+-- text of its run, or the table of the outcomes of the seeds below a count. `swap`, `trace` and `events` write that, or
+-- nothing.
 abbrev pub OnOut : (Text → Option Text) → List Text → Change → Type 0
 OnOut known words out = OnOutOf known (command_of words) out
 
@@ -26,8 +26,3 @@ Swaps known words out = (source schedule place : Text) → command_of words ≡ 
 abbrev pub Traces : (Text → Option Text) → List Text → Change → Type 0
 Traces known words out = (source schedule : Text) → command_of words ≡ Some (trace source schedule)
     → IfSome (known source) (λ bytes. IfSome (known schedule) (WritesTrace out bytes))
-
--- If `explore` is done, all outcomes of the program are on out: over every schedule it ends with one of them, and each has
--- a schedule that leads to it.
-abbrev pub Explores : (Text → Option Text) → List Text → Change → Type 0
-Explores known words out = (source count : Text) → command_of words ≡ Some (explore source count) → IfSome (known source) (WritesAllOutcomes out)

@@ -11,7 +11,6 @@ ghost use Rattle.pc_top.specs.Inner.Asking.{AsksSo};
 mod check;
 mod events;
 mod explain;
-mod explore;
 mod judge;
 mod make;
 mod outcomes;
@@ -28,7 +27,6 @@ mod upgrade;
 use check::check_source;
 use events::tell_events;
 use explain::explain_source;
-use explore::explore_source;
 use judge::judge_source;
 use make::make_program;
 use outcomes::tell_outcomes;
@@ -95,9 +93,6 @@ pub fn run_command<F: Files, O: Sink, R: Referee>(
         Command::Play { source, seed } => play_source(alloc, files, out, source, seed),
         Command::Outcomes { source, count } => {
             put_answer(out, tell_outcomes(alloc, files, source, count))
-        }
-        Command::Explore { source, count } => {
-            put_answer(out, explore_source(alloc, files, source, count))
         }
     }
 }

@@ -8,7 +8,7 @@ ghost use Rattle.pc_top.specs.Failures.{FailuresAreTold, NoVerdictIsAFailure};
 ghost use Rattle.pc_top.specs.Laws.{UpgradedIsAccepted, WrittenIsAccepted};
 ghost use Rattle.pc_top.specs.One.{VerdictIsOne};
 ghost use Rattle.pc_top.specs.Played.{PlayedAsRun};
-ghost use Rattle.pc_top.specs.Laws.{FoundIsWhole, TablesTell};
+ghost use Rattle.pc_top.specs.Laws.{TablesTell};
 
 use pc_check::{
     nothing_is_derivable_with_a_declaration_that_fails, nothing_is_derivable_with_a_field_unset,
@@ -32,7 +32,6 @@ use pc_regions::valid_is_safe;
 use pc_rules::one_annotation_is_valid;
 use pc_sched::turns_are_one;
 use pc_sched_lines::lines_are_one;
-use pc_search::searches_are_whole;
 use pc_sends::held_covers;
 use pc_sub::{no_fault_where_declarations_fit, one_declaration_fails_first};
 use pc_swap::{arrivals_decide, kept_are_not_apart};
@@ -182,16 +181,6 @@ pub fn tables_tell_of_every_run()
     cores_of_sources_are_formed();
     accepted_held();
     held_covers();
-}
-
-/// What `explore` finds of a source is whole: over every schedule the program ends with one of the outcomes that are found,
-/// and each of these has a schedule that leads to it.
-pub fn what_is_found_is_whole()
-    ensures { FoundIsWhole }
-{
-    cores_of_sources_are_formed();
-    valid_is_safe();
-    searches_are_whole();
 }
 
 /// If `schedule` is done with a line for a source and a seed, then `play` of that source and that seed, and `run` of

@@ -15,8 +15,7 @@
 //!   a compiler may rely on what is `val`, on single owners, on progress and on arrivals
 //!   (`derivable_sources_are_reliable`).
 //! - What `sends` reports is right about every run (`tables_tell_of_every_run`), and `play` has the status and the
-//!   output of `run` for the line that `schedule` writes (`plays_are_runs`). What `explore` finds is whole
-//!   (`what_is_found_is_whole`).
+//!   output of `run` for the line that `schedule` writes (`plays_are_runs`).
 //!
 //! How the code is to be read is in `CONTRIBUTING.md` (How to read the code).
 #![tactic(auto)]
@@ -34,6 +33,6 @@ pub use laws::{
     derivable_sources_are_safe, failures_are_told, judged_statuses_are_exact,
     no_verdict_is_a_failure, plays_are_runs, refused_sources_have_no_derivation,
     statuses_are_exact, tables_tell_of_every_run, upgraded_derivations_are_accepted,
-    verdict_is_one, what_is_found_is_whole, written_derivations_are_accepted,
+    verdict_is_one, written_derivations_are_accepted,
 };
 pub use top::rcap;

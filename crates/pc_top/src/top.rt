@@ -7,13 +7,13 @@ ghost use Rattle.pc_top.specs.Asked.{Accepts, FailedIn, IsMadeDecided, IsMadeFro
 ghost use Rattle.pc_args.specs.Asked.{command_of, texts};
 ghost use Rattle.pc_io.specs.Sink.{change};
 ghost use Rattle.pc_top.specs.Inner.Asking.{AsksSo};
-ghost use Rattle.pc_top.specs.OnOut.{Explores, OnOut, Swaps, Traces};
+ghost use Rattle.pc_top.specs.OnOut.{OnOut, Swaps, Traces};
 ghost use Rattle.pc_top.specs.Referee.{Asks};
 
 use crate::commands::run_command;
 use crate::laws::{
     derivable_sources_are_isolated, derivable_sources_are_reliable, derivable_sources_are_safe,
-    refused_sources_have_no_derivation, tables_tell_of_every_run, what_is_found_is_whole,
+    refused_sources_have_no_derivation, tables_tell_of_every_run,
 };
 use pc_args::{WordsFault, read_words};
 use pc_io::{Files, Sink};
@@ -26,14 +26,14 @@ use std::alloc::Global;
 /// The status is 0 if the command is done, with its text on out, and otherwise that of the refusal, with its line on
 /// err. It is 12 if a run or a play comes to a text that is too long, with what was printed on out and the line on err;
 /// `swap`, `trace` and `events` write nothing then. It is 8 if something passes a limit, such as the bytes of a file,
-/// the plays of `outcomes`, the orders of `explore`, or the actors of a run if `trace` or `events` comes to a step that would make the 65th. It
+/// the plays of `outcomes`, or the actors of a run if `trace` or `events` comes to a step that would make the 65th. It
 /// is 15 if a schedule does not have two turns at the given place, 9 if a file of the command could not be read, 10 if
 /// out or err failed, and 11 if memory ran out.
 ///
 /// The following are written in one call of `put` each on out: a derivation, `accepted`, an explanation, a printed
 /// tree, the core with its places, each printed text of a run or a play and its numbers, the first line of a generated
 /// program, the report on two turns, all accesses or all events of a run with their clocks, the whole table of who
-/// sends what, a schedule that a seed chooses, a table of outcomes, and all outcomes. The line on err is one call too; after a failed
+/// sends what, a schedule that a seed chooses, and a table of outcomes. The line on err is one call too; after a failed
 /// call on out, nothing more is written. `judge` asks the referee about the nodes of the derivation, in order, up to
 /// the first fault other than that of a declaration.
 pub fn rcap<F: Files, O: Sink, E: Sink, R: Referee>(
@@ -103,7 +103,7 @@ pub fn rcap<F: Files, O: Sink, E: Sink, R: Referee>(
     // the text of the run, the printed tree, the core with its places, the generated program's numbers and the text of
     // its run, the exchanged schedule or why it stays, the accesses or the events of the run, the lines of who sends
     // what, a valid derivation in version 2 of its text, the schedule that a seed chooses, the text of its run, or the
-    // table of the outcomes of some seeds, or all outcomes that a search finds. Of `swap`, `trace` and `events` it is that, or nothing. The lines of who
+    // table of the outcomes of some seeds. Of `swap`, `trace` and `events` it is that, or nothing. The lines of who
     // sends what are right about every run: over every list of actors, of any length, what an actor is about to send
     // has its line, and no message of a method that is reported as never sent waits anywhere.
     ensures writes { IsAccepting result → OnOut (F.bytes files.old) (texts words.now)
@@ -121,12 +121,6 @@ pub fn rcap<F: Files, O: Sink, E: Sink, R: Referee>(
     ensures traces { result ≡ 0 → Traces (F.bytes files.old) (texts words.now)
         (change (O.written out.old) (O.written out.new) (O.faults out.old) (O.faults out.new)) }
 
-    // If `explore` is done, all outcomes of the program are on out: over every schedule, of any length, it ends within
-    // 10,000 steps, and what is printed then is the text of one of them. The schedule of each is a run whose steps all
-    // move, to an end with this outcome.
-    ensures explores { result ≡ 0 → Explores (F.bytes files.old) (texts words.now)
-        (change (O.written out.old) (O.written out.new) (O.faults out.old) (O.faults out.new)) }
-
     // If neither a sink failed nor a file whose failure would be an answer, the answer is a verdict, or memory ran out.
     ensures completes { let files = files_change (F.bytes files.old) (F.faults files.old) (F.faults files.new) (F.taken files.new) in
         Completes (IsVerdict files (texts words.now)) (FailedIn files (texts words.now))
@@ -142,7 +136,6 @@ pub fn rcap<F: Files, O: Sink, E: Sink, R: Referee>(
     derivable_sources_are_isolated();
     derivable_sources_are_reliable();
     tables_tell_of_every_run();
-    what_is_found_is_whole();
     let ended = run_words(alloc, words, files, out, referee);
     finish(alloc, ended, err)
 }

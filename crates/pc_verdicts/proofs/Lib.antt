@@ -14,7 +14,6 @@ pub mod Derived
 pub mod Running
 pub mod Swapping
 pub mod Tabled
-pub mod Explored
 pub mod Deciding
 pub mod Chains
 pub mod Sending

@@ -1,14 +1,14 @@
 -- A verdict on files that were read without a failure is that on files that are read through.
 use Rattle.std.proofs.Common.{◌≡◌, ◌<◌, ◌+◌, ℕ, List, [], ◌∷◌, Option, Some, None, inl, inr, refl, subst, arith}
 use Rattle.std.specs.Prelude.{Result}
-use Rattle.pc_args.specs.{Asked.{Asked, check, events, explain, explore, judge, make, outcomes, places, play, run, schedule_of, sends, show, swap, trace, upgrade, command_of}, Line.IsSeed}
+use Rattle.pc_args.specs.{Asked.{Asked, check, events, explain, judge, make, outcomes, places, play, run, schedule_of, sends, show, swap, trace, upgrade, command_of}, Line.IsSeed}
 use Rattle.pc_deriv.specs.Text.{derivation_limit}
 use Rattle.pc_base.specs.Lists.{Text}
 use Rattle.pc_refusals.specs.{Source.{AcceptedStage, FromFile, SourceStage, source_limit}, Derivation.in_parts, Source.FromFile.{goes_on, refuses}, Verdict.{FailedAt, Files, Named, Reading, IsReading, longer, named, whole, EndsWith, Verdict}, Knowing.NoneFailed}
 use Rattle.pc_ann.specs.declared.annotation.Ann.{Ann}
 use Rattle.pc_sched.specs.Schedules.{schedule_limit}
 use Rattle.pc_top.specs.{Commands.{FailedOf, IsVerdictOf}, Words.files_of, Commands.Swap.IsSwap.{no_number as no_place, placed}, One.{TellsOf, UnfailedOf, VerdictIsOne}, Shapes.{ByNumber, LastOfTurns, OfDerivation, OfScheduled}, Shapes.ByNumber.{no_number, spelled}}
-use Rattle.pc_commands.specs.{Events.EventsTelling, Explore.IsOrderCount, Outcomes.IsCount, Run.Ran, Swap.Swapping, Trace.Tracing}
+use Rattle.pc_commands.specs.{Events.EventsTelling, Outcomes.IsCount, Run.Ran, Swap.Swapping, Trace.Tracing}
 use Rattle.pc_verdicts.specs.{Free.{ElevenIsFree, IsAnswerOf}, There.read_through}
 
 reading_moves : (limit : ℕ) (known : Option Text) (before now taken many : ℕ) → limit < many → now ≡ before → (r : Reading) → IsReading limit known before now taken r → IsReading limit known 0 0 many r
@@ -69,7 +69,6 @@ module _ (files : Files) where
   moves (Some (schedule_of source seed)) v u h = number_moves (IsSeed seed) _ _ v (λ n k. source_moves source u.0 v _ _ _ (λ x l. l) k) h
   moves (Some (play source seed)) v u h = number_moves (IsSeed seed) _ _ v (λ n k. source_moves source u.0 v _ _ _ (λ x l. l) k) h
   moves (Some (outcomes source count)) v u h = number_moves (IsCount count) _ _ v (λ n k. source_moves source u.0 v _ _ _ (λ x l. l) k) h
-  moves (Some (explore source count)) v u h = number_moves (IsOrderCount count) _ _ v (λ n k. source_moves source u.0 v _ _ _ (λ x l. l) k) h
 
   -- ---- no file of the command failed
 
@@ -93,7 +92,6 @@ module _ (files : Files) where
   none_failed (Some (schedule_of source seed)) name u f = not_failed source name u.0 f.1
   none_failed (Some (play source seed)) name u f = not_failed source name u.0 f.1
   none_failed (Some (outcomes source count)) name u f = not_failed source name u.0 f.1
-  none_failed (Some (explore source count)) name u f = not_failed source name u.0 f.1
 
 -- ---- it is the one verdict
 

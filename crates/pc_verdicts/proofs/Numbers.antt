@@ -5,7 +5,7 @@ use Rattle.pc_args.specs.Line.{IsNumber, IsSeed, IsSize}
 use Rattle.pc_base.specs.Lists.{Text}
 use Rattle.pc_refusal_lines.specs.Lines.{usage_line}
 use Rattle.pc_refusals.specs.Verdict.{Verdict, refused}
-use Rattle.pc_commands.specs.{Explore.{IsOrderCount, orders_limit}, Outcomes.{IsCount, seeds_limit}, Swap.IsPlace}
+use Rattle.pc_commands.specs.{Outcomes.{IsCount, seeds_limit}, Swap.IsPlace}
 use Rattle.pc_top.specs.{Shapes.ByNumber, Shapes.ByNumber.{no_number, spelled}}
 use Rattle.pc_verdicts.proofs.{Same.Told, Stages.Answers}
 
@@ -60,9 +60,6 @@ size_read text = within_read 3 1 900 text
 
 pub place_read : (text : Text) → Read (IsPlace text)
 place_read text = within_read 7 1 9999999 text
-
-pub order_count_read : (text : Text) → Read (IsOrderCount text)
-order_count_read text = within_read 6 1 orders_limit text
 
 pub count_read : (text : Text) → Read (IsCount text)
 count_read text = within_read 5 1 seeds_limit text

@@ -1,6 +1,6 @@
 -- Each command has a verdict.
 use Rattle.std.proofs.Common.{Option, Some, None, refl, arith}
-use Rattle.pc_args.specs.Asked.{Asked, check, events, explain, explore, judge, make, outcomes, places, play, run, schedule_of, sends, show, swap, trace, upgrade, command_of}
+use Rattle.pc_args.specs.Asked.{Asked, check, events, explain, judge, make, outcomes, places, play, run, schedule_of, sends, show, swap, trace, upgrade, command_of}
 use Rattle.pc_deriv.specs.Text.{derivation_limit, deriv_text}
 use Rattle.pc_deriv.specs.declared.version.Version.TheVariants as version
 use Rattle.pc_base.specs.Lists.{Text}
@@ -11,7 +11,7 @@ use Rattle.pc_refusals.specs.{Derivation.in_parts, Verdict.{Named, named, refuse
 use Rattle.pc_refusal_lines.specs.Lines.{usage_line}
 use Rattle.pc_top.specs.{Commands.IsVerdictOf, One.TellsOf, CoresFormed.CoresAreFormed}
 use Rattle.pc_commands.specs.Judge.{accepted_text}
-use Rattle.pc_verdicts.proofs.{Derived.check_answers, Explored.explore_answers, Recounting.events_answers, Running.{make_answers, play_answers, run_answers, schedule_answers}, Sending.sends_answers, Shapes.derivation_answers, Sources.{explain_answers, places_answers, show_answers}, Stages.{Answers, ReadOn, far_on}, Swapping.swap_answers, Tabled.outcomes_answers, Tracing.trace_answers}
+use Rattle.pc_verdicts.proofs.{Derived.check_answers, Recounting.events_answers, Running.{make_answers, play_answers, run_answers, schedule_answers}, Sending.sends_answers, Shapes.derivation_answers, Sources.{explain_answers, places_answers, show_answers}, Stages.{Answers, ReadOn, far_on}, Swapping.swap_answers, Tabled.outcomes_answers, Tracing.trace_answers}
 use Rattle.pc_verdicts.specs.There.{ThereIsAVerdict, read_through}
 
 module _ (law : CoresAreFormed) (never : AcceptedNeverLacks) (safe : ValidIsSafe) (known : Text → Option Text) where
@@ -48,7 +48,6 @@ module _ (law : CoresAreFormed) (never : AcceptedNeverLacks) (safe : ValidIsSafe
   answered (Some (schedule_of source seed)) h = schedule_answers law never (file source) seed (source_on source) h.0
   answered (Some (play source seed)) h = play_answers law never (file source) seed (source_on source) h.0
   answered (Some (outcomes source count)) h = outcomes_answers law (file source) count (source_on source) h.0
-  answered (Some (explore source count)) h = explore_answers law safe (file source) count (source_on source) h.0
 
 pub verdict_there : CoresAreFormed → AcceptedNeverLacks → ValidIsSafe → ThereIsAVerdict
 verdict_there law never safe known words h = answered law never safe known (command_of words) h

@@ -1,5 +1,5 @@
 use Rattle.std.proofs.Common.{ap}
-use Rattle.pc_args.specs.{Asked.{check, events, explain, explore, judge, make, outcomes, places, play, run, schedule_of, sends, show, swap, trace, upgrade}, Commands.asked_by}
+use Rattle.pc_args.specs.{Asked.{check, events, explain, judge, make, outcomes, places, play, run, schedule_of, sends, show, swap, trace, upgrade}, Commands.asked_by}
 use Rattle.pc_io.specs.Sink.{change}
 use Rattle.pc_refusals.specs.Verdict.{files_change}
 use Rattle.pc_top.proofs.{Asking.{asks_judge, asks_other}, Ending.{command_ends, command_puts}, Rooms.Judge.asks_put}
@@ -118,15 +118,6 @@ returns-in-Outcomes-clause-ends g c =
 
 pub returns-in-Outcomes-clause-asks : goal.returns-in-Outcomes-clause-asks
 returns-in-Outcomes-clause-asks g c = asks_other _ _ (outcomes c.in-Outcomes.source.now c.in-Outcomes.count.now) _ _ (ap asked_by c.in-Outcomes.is) (λ s d e. cc)
-
-pub returns-in-Explore-clause-ends : goal.returns-in-Explore-clause-ends
-returns-in-Explore-clause-ends g c =
-    let files = files_change (g.F.Files.bytes c.args.files.now) (g.F.Files.faults c.args.files.now) (g.F.Files.faults c.explore_source.new.files) (g.F.Files.taken c.explore_source.new.files) in
-    let out = change (g.O.Sink.written c.args.out.now) (g.O.Sink.written c.put_answer-in-Explore.new.out) (g.O.Sink.faults c.args.out.now) (g.O.Sink.faults c.put_answer-in-Explore.new.out) in
-    command_puts files out _ (explore c.in-Explore.source.now c.in-Explore.count.now) _ _ (ap asked_by c.in-Explore.is) c.explore_source.ensures.answers c.put_answer-in-Explore.ensures.puts
-
-pub returns-in-Explore-clause-asks : goal.returns-in-Explore-clause-asks
-returns-in-Explore-clause-asks g c = asks_other _ _ (explore c.in-Explore.source.now c.in-Explore.count.now) _ _ (ap asked_by c.in-Explore.is) (λ s d e. cc)
 
 pub returns-in-Play-clause-ends : goal.returns-in-Play-clause-ends
 returns-in-Play-clause-ends g c =

@@ -3,8 +3,7 @@ use Rattle.pc_io.specs.Sink.{change}
 use Rattle.pc_refusals.specs.Verdict.{files_change}
 use Rattle.pc_refusals.proofs.Answers.{answer_of, completes}
 use Rattle.pc_top.specs.{Asked.{IsVerdict, FailedIn}, CoreOf.HasSafeCore, Guarantees.{HasDecidedCore, HasFrozenCore, HasOwnedCore, HasProgressingCore}, IsolatedCore.HasIsolatedCore}
-use Rattle.std.proofs.Common.{inl}
-use Rattle.pc_top.proofs.{Asking.asks_answer, Rooms.Explore.explores_of, Verdicts.{accepted_holds, answer_accepts, answer_refuses, answer_swaps, answer_traces, answer_writes}}
+use Rattle.pc_top.proofs.{Asking.asks_answer, Verdicts.{accepted_holds, answer_accepts, answer_refuses, answer_swaps, answer_traces, answer_writes}}
 use Rattle.pc_top.proofs.top.rcap.Goals as goal
 
 pub returns-clause-answers : goal.returns-clause-answers
@@ -60,11 +59,6 @@ returns-clause-writes g c =
     let out = change (g.O.Sink.written c.args.out.now) (g.O.Sink.written c.run_words-ended.new.out) (g.O.Sink.faults c.args.out.now) (g.O.Sink.faults c.run_words-ended.new.out) in
     let err = change (g.E.Sink.written c.args.err.now) (g.E.Sink.written c.finish.new.err) (g.E.Sink.faults c.args.err.now) (g.E.Sink.faults c.finish.new.err) in
     answer_writes files (texts c.args.words.now) out err c.finish.result (returns-clause-answers g c) c.tables_tell_of_every_run.ensures
-
-pub returns-clause-explores : goal.returns-clause-explores
-returns-clause-explores g c e =
-    let out = change (g.O.Sink.written c.args.out.now) (g.O.Sink.written c.run_words-ended.new.out) (g.O.Sink.faults c.args.out.now) (g.O.Sink.faults c.run_words-ended.new.out) in
-    explores_of c.what_is_found_is_whole.ensures (g.F.Files.bytes c.args.files.now) (texts c.args.words.now) out (returns-clause-writes g c (inl e))
 
 pub returns-clause-swaps : goal.returns-clause-swaps
 returns-clause-swaps g c =

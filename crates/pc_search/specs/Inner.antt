@@ -1,4 +1,0 @@
--- Definitions of which only the contracts of inner functions speak.
-pub mod Shown
-pub mod Works
-pub mod Lists
