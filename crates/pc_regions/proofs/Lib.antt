@@ -20,7 +20,9 @@ pub mod StartFits
 mod StandsOtherwise
 mod Shifts
 mod Rising
+mod ExitForms
 mod ChildForms
+mod ReturnForms
 mod ControlKeeps
 mod SlotSeen
 mod ValueKeeps
@@ -56,6 +58,10 @@ mod ContextComes
 mod ContextGoes
 pub mod TakesMessage
 mod ReturnKeeps
+mod Leaving
+mod LoopForms
+mod LeaveKeeps
+mod ReturnOut
 mod SlotTaken
 mod SlotDepth
 mod SlotStored

@@ -19,4 +19,5 @@ pub mod MeantCalls
 pub mod RecordWords
 pub mod Records
 pub mod Derivations
+pub mod ChildStarts
 pub mod Unique

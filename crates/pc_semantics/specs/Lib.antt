@@ -12,3 +12,4 @@ pub mod Lending
 pub mod Parts
 pub mod Pending
 pub mod Children
+pub mod Exits

@@ -45,14 +45,17 @@ fn same_head(first: &Method, second: &Method) -> bool
     second.name == first.name && second.kind == first.kind && second.receiver == first.receiver
 }
 
-// Whether the two methods have the same result.
+// Whether the two methods have the same result, and both may fail, or neither.
 fn same_result(first: &Method, second: &Method) -> bool
     ensures { IsTrue result ↔ spec.SameResult first.now second.now }
 {
-    second.result.0 == first.result.0 && second.result.1 == first.result.1
+    second.result.0 == first.result.0
+        && second.result.1 == first.result.1
+        && second.partial == first.partial
 }
 
-/// Whether the two methods have the same name, kind, receiver and result, and the same types of parameters.
+/// Whether the two methods have the same name, kind, receiver and result, and the same types of parameters, and both may
+/// fail, or neither.
 pub(crate) fn is_alike(first: &Method, second: &Method) -> bool
     ensures { IsTrue result ↔ spec.Alike first.now second.now }
 {

@@ -1,3 +1,4 @@
 pub mod Words
+pub mod Exits
 pub mod Valid
 pub mod NoRule
