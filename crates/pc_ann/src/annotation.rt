@@ -67,18 +67,6 @@ pub enum Rule {
     If,
     /// `while`.
     While,
-    /// `repeat`.
-    Repeat,
-    /// `return`.
-    Return,
-    /// `break`.
-    Break,
-    /// `continue`.
-    Continue,
-    /// `error`.
-    Error,
-    /// `try`.
-    Try,
     /// `recover`.
     Recover,
     /// The body of a method.
@@ -87,10 +75,6 @@ pub enum Rule {
 
 /// What a derivation states about a node. The live masks contain the slots that hold a value, the set masks the fields
 /// of `this` that have one; bit i is the slot or field with index i.
-///
-/// After a node that does not end, as a `return`, nothing is evaluated: it has no type, and its masks after it contain
-/// everything. Where a `break`, a `continue` or an `error` leaves the node, its exit of that kind has the live slots and
-/// the set fields that are there at each place from which such a jump may come.
 #[derive(Clone, Copy, Debug, PartialEq, Eq)]
 pub struct Note {
     /// The rule that the node satisfies.
@@ -105,14 +89,6 @@ pub struct Note {
     pub live_after: Mask,
     /// The set fields after it.
     pub set_after: Mask,
-    /// Whether what follows the node may be evaluated.
-    pub ends: bool,
-    /// The live slots and the set fields at each `break` that leaves the node, or none if there is no such `break`.
-    pub breaks: Option<(Mask, Mask)>,
-    /// The same at each `continue`.
-    pub continues: Option<(Mask, Mask)>,
-    /// The same at each `error`, and at each call that may fail.
-    pub errors: Option<(Mask, Mask)>,
 }
 
 /// An annotation of a core: an entity and a capability for each slot, and a note for each node, in the core's order.

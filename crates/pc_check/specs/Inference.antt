@@ -7,7 +7,7 @@ use Rattle.pc_core.specs.{declared.declarations.Method.Method, declared.nodes.Sl
 use Rattle.pc_base.specs.Lists.{◌>>=◌}
 use Rattle.pc_masks.specs.declared.mask.Mask.{Mask}
 use Rattle.pc_ann.specs.{declared.annotation.Note.Note, declared.annotation.Ann.Ann, declared.annotation.Rule.Rule}
-use Rattle.pc_rules.specs.{declared.said.Said.Said, Parts.{constructs, full, notes_of, type_of, one_child}, Rules.{noted, says}}
+use Rattle.pc_rules.specs.{declared.said.Said.Said, Parts.{constructs, full, type_of, one_child}, Rules.says}
 use Rattle.pc_valid.specs.Words.{Ty, Masks}
 use Rattle.pc_caps.specs.declared.capability.Cap.TheVariants as cap
 use Rattle.pc_core.specs.declared.nodes.NodeKind.TheVariants as node
@@ -75,26 +75,21 @@ rules_for (node.Same v) = rule.Identity ∷ []
 rules_for node.Seq = rule.Seq ∷ []
 rules_for node.If = rule.If ∷ []
 rules_for node.While = rule.While ∷ []
-rules_for node.Repeat = rule.Repeat ∷ []
-rules_for node.Return = rule.Return ∷ []
-rules_for node.Break = rule.Break ∷ []
-rules_for node.Continue = rule.Continue ∷ []
-rules_for node.Error = rule.Error ∷ []
-rules_for (node.Try strict) = rule.Try ∷ []
 rules_for (node.Recover k) = rule.Recover ∷ []
 rules_for node.Body = rule.Body ∷ []
 
--- The note of node x by the conclusion of a rule, if it applies.
-abbrev pub note_or_else : CoreData → Ann → Node → Rule → Masks → Option Said → Option Note → Option Note
-note_or_else core ann x r m None o = o
-note_or_else core ann x r m (Some q) o = do
-  ns ← notes_of ann.notes x.children
-  Some (noted core x ns r m q)
+-- The conclusion of a rule, as a note.
+abbrev pub note_of : Rule → Masks → Said → Note
+note_of r m q = record { rule = r; ty = q.ty; live_before = m.0; set_before = m.1; live_after = q.live; set_after = q.set }
+
+abbrev pub note_or_else : Rule → Masks → Option Said → Option Note → Option Note
+note_or_else r m None o = o
+note_or_else r m (Some q) o = Some (note_of r m q)
 
 -- The note by the first of these rules that applies to node x.
 abbrev pub first_note : CoreData → Ann → Node → Masks → List Rule → Option Note
 first_note core ann x m [] = None
-first_note core ann x m (r ∷ rs) = note_or_else core ann x r m (says core ann x m r x.kind) (first_note core ann x m rs)
+first_note core ann x m (r ∷ rs) = note_or_else r m (says core ann x m r x.kind) (first_note core ann x m rs)
 
 -- ---- constructors
 

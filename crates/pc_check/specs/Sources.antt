@@ -2,9 +2,9 @@
 use Rattle.std.specs.Prelude.{◌≡◌, ◌⊎◌, ℕ, ◌+◌, ◌<◌, ◌≤◌, List, length, Some, slice_get}
 use Rattle.pc_core.specs.{declared.declarations.Method.Method, declared.nodes.Node.Node, CoreData.CoreData}
 use Rattle.pc_base.specs.Lists.{Each, Has}
-use Rattle.pc_ann.specs.declared.annotation.Ann.{Ann}
+use Rattle.pc_ann.specs.{declared.annotation.Note.Note, declared.annotation.Ann.Ann}
 use Rattle.pc_masks.specs.Masks.{first}
-use Rattle.pc_valid.specs.Words.Masks
+use Rattle.pc_valid.specs.Words.{Masks, masks_after}
 use Rattle.pc_rules.specs.{Control.start_set, Trees.Tree, Checks.StartsFrom}
 use Rattle.pc_check.specs.declared.sources.Source.{Source}
 use Rattle.pc_check.specs.declared.sources.Source.TheVariants as source
@@ -13,13 +13,11 @@ use Rattle.pc_check.specs.declared.sources.Source.TheVariants as source
 abbrev pub start_masks : CoreData → Method → Masks
 start_masks core f = (first (1 + length f.params), start_set core f)
 
--- Whatever the notes are, the masks of this source reach node n: those with which a method starts, or those that reach
--- the child of node p with this index; the children before that one come before number `low`.
+-- Whatever the notes are, the masks of this source reach node n: those with which a method starts, or those after a
+-- node that comes before number `low`.
 abbrev pub Comes : CoreData → (low node : ℕ) → Source → Type 0
 Comes core low n (source.Start m) = (f : Method) × (slice_get core.methods m ≡ Some f) × ((ann : Ann) → StartsFrom core ann n (start_masks core f))
-Comes core low n (source.Child p i) =
-    (x : Node) × (c : ℕ) × (slice_get core.nodes p ≡ Some x) × (slice_get x.children i ≡ Some c) × (0 < i)
-    × Each (λ j k. j < i → k < low) x.children × ((ann : Ann) (m : Masks) → StartsFrom core ann c m → StartsFrom core ann n m)
+Comes core low n (source.Behind s) = (s < low) × ((ann : Ann) (t : Note) → slice_get ann.notes s ≡ Some t → StartsFrom core ann n (masks_after t))
 
 -- It is the source of node n, and comes before the subtree of n.
 abbrev pub IsPlacedSource : CoreData → ℕ → Source → Type 0

@@ -1,7 +1,7 @@
 -- The built-in entities, chains of `is` in a core, the kinds of methods, and the slots that a declaration gives; when two
 -- entities are the same, or the first is declared by `is` to be the second; and when an entity has what a trait or an
 -- interface declares.
-use Rattle.std.specs.Prelude.{◌≡◌, ℕ, true, false, List, [], ◌∷◌, Some, None, slice_get, codes, ◌⊎◌, length}
+use Rattle.std.specs.Prelude.{◌≡◌, ℕ, true, List, [], ◌∷◌, Some, None, slice_get, codes, ◌⊎◌, length}
 use Rattle.pc_base.specs.{declared.span.Span.Span, Lists.{Has, Each}}
 use Rattle.pc_caps.specs.{declared.capability.Cap.Cap, Tables.{IsBelow, unalias}}
 use Rattle.pc_tree.specs.{declared.kinds.EntityKind.EntityKind, Kinds.{none_entity, u64_entity, bool_entity, string_entity, env_entity, out_stream_entity, at_kind}, declared.kinds.MethodWord.MethodWord}
@@ -38,7 +38,6 @@ print_method name = record {
   receiver = cap.Ref;
   params = record { entity = string_entity; cap = cap.Val; span = nowhere } ∷ [];
   result = (none_entity, form.Val);
-  partial = false;
   first_slot = 0;
   slots = 0;
   first_node = 0;
@@ -106,8 +105,6 @@ pub record StandsFor (core : CoreData) (t y : Method) : Type 0 where
   pub params : Each (λ i p. (q : ParamInfo) → slice_get y.params i ≡ Some q → ParamFits core p q) t.params
   pub entity : Chain core y.result.0 t.result.0
   pub form : IsBelow y.result.1 t.result.1
-  -- it may fail only if t may
-  pub partial : y.partial ≡ true → t.partial ≡ true
 
 -- The entity has a method with the name and kind of method t, and it may replace t.
 abbrev pub HasFor : CoreData → ℕ → Method → Type 0

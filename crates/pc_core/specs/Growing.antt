@@ -54,7 +54,6 @@ module _ (core : CoreData) (ms : List Method) (ss : List Slot) (ns : List Node) 
     arity = f.arity;
     depths = λ i c e y g. elim (append_get core.nodes ns c y g) [ inl old ↦ f.depths i c e y old | inr new ↦ let low = b i c e in let high = new.0 in absurd (omega (arith, low, high)) ];
     names = names_kept x.method x.kind f.names;
-    mark = f.mark;
   }
 
   local_kept : (m s : ℕ) (x : Slot) → Each (λ i y. y.method ≢ m) ns → LocalFits core m s x → LocalFits (grown core ms ss ns) m s x
@@ -95,7 +94,6 @@ module _ (core : CoreData) (ms : List Method) (ss : List Slot) (ns : List Node) 
         is_body = f.is_body;
         depth = f.depth;
         one = subst (λ ys. Each (λ i y. y.kind ≡ node.Body → x.first_node + i ≡ b) ys) (sym same) f.one;
-        values = λ fun. subst (λ ys. Each (λ i y. y.kind ≡ node.Return → length y.children ≡ 1) ys) (sym same) (f.values fun);
       }
 
   -- A method fits as before if the new nodes belong to other methods.
@@ -108,7 +106,6 @@ module _ (core : CoreData) (ms : List Method) (ss : List Slot) (ns : List Node) 
     params = f.params;
     result = f.result;
     result_fits = f.result_fits;
-    may_fail = f.may_fail;
     few_slots = f.few_slots;
     slots = elim f.slots [ inl first ↦ inl first | inr fit ↦ inr (slots_kept m x room other fit) ];
     has_body = f.has_body;

@@ -1,8 +1,7 @@
 -- What a node does, by its kind. A kind without a row does no such thing.
 use Rattle.std.specs.Prelude.{ℕ, Option, Some, None}
-use Rattle.pc_core.specs.{declared.kinds.Operation.Operation, declared.kinds.Connective.Connective, declared.kinds.Exit.Exit, declared.nodes.NodeKind.NodeKind}
+use Rattle.pc_core.specs.{declared.kinds.Operation.Operation, declared.kinds.Connective.Connective, declared.nodes.NodeKind.NodeKind}
 use Rattle.pc_core.specs.declared.kinds.Connective.TheVariants as joins
-use Rattle.pc_core.specs.declared.kinds.Exit.TheVariants as exit
 use Rattle.pc_core.specs.declared.kinds.Operation.TheVariants as applies
 use Rattle.pc_core.specs.declared.nodes.NodeKind.TheVariants as node
 
@@ -36,10 +35,3 @@ abbrev pub connective : NodeKind → Option Connective
 connective node.And = Some joins.And
 connective node.Or = Some joins.Or
 connective k = None
-
--- The exit that a `break`, a `continue` or an `error` takes.
-abbrev pub taken_exit : NodeKind → Option Exit
-taken_exit node.Break = Some exit.Break
-taken_exit node.Continue = Some exit.Continue
-taken_exit node.Error = Some exit.Error
-taken_exit k = None

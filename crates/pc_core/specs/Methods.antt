@@ -22,10 +22,6 @@ ResultFits method.Be x = (x.receiver ≡ cap.Ref) × (x.result ≡ (none_entity,
 ResultFits method.New x = (x.receiver ≡ cap.Ref) × (x.result.0 ≡ x.entity) × ((k : Cap) × (x.result.1 ≡ unalias k))
 ResultFits method.Spawn x = (x.receiver ≡ cap.Ref) × (x.result ≡ (x.entity, form.Tag))
 
--- A method of this kind has a caller, to which an error may go.
-abbrev pub HasCaller : MethodKind → Type 0
-HasCaller m = (m ≡ method.Fun) ⊎ (m ≡ method.New)
-
 abbrev pub is_local : SlotKind → Bool
 is_local slot.Let = true
 is_local slot.Var = true
@@ -86,8 +82,6 @@ pub record BodyFits (core : CoreData) (m : ℕ) (x : Method) (body : ℕ) : Type
   pub is_body : root.kind ≡ node.Body
   pub depth : root.depth ≡ 0
   pub one : Each (λ i y. y.kind ≡ node.Body → x.first_node + i ≡ body) (own_nodes core x)
-  -- a `return` in a function has a value
-  pub values : x.kind ≡ method.Fun → Each (λ i y. y.kind ≡ node.Return → length y.children ≡ 1) (own_nodes core x)
 
 -- Method number m fits the core.
 pub record MethodFits (core : CoreData) (m : ℕ) (x : Method) : Type 0 where
@@ -100,7 +94,6 @@ pub record MethodFits (core : CoreData) (m : ℕ) (x : Method) : Type 0 where
   pub params : Each (λ i p. p.entity < length core.entities) x.params
   pub result : x.result.0 < length core.entities
   pub result_fits : ResultFits x.kind x
-  pub may_fail : x.partial ≡ true → HasCaller x.kind
   -- its slots
   pub few_slots : x.slots ≤ slot_limit
   pub slots : (m ≡ 0) ⊎ SlotsFit core m x

@@ -6,7 +6,6 @@ use Rattle.pc_base.specs.Lists.{Each}
 use Rattle.pc_tree.specs.declared.kinds.EntityKind.TheVariants as kind
 use Rattle.pc_tree.specs.declared.kinds.Op.TheVariants as op
 use Rattle.pc_core.specs.declared.declarations.MethodKind.TheVariants as method
-use Rattle.pc_core.specs.declared.nodes.Mark.TheVariants as mark
 use Rattle.pc_core.specs.declared.nodes.NodeKind.TheVariants as node
 
 -- A node of this kind has k children.
@@ -32,13 +31,7 @@ HasArity node.Or k = k ≡ 2
 HasArity (node.Same v) k = k ≡ 2
 HasArity node.Seq k = 1 ≤ k
 HasArity node.If k = k ≡ 3
-HasArity node.While k = (k ≡ 2) ⊎ (k ≡ 3)
-HasArity node.Repeat k = (k ≡ 2) ⊎ (k ≡ 3)
-HasArity node.Return k = k ≤ 1
-HasArity node.Break k = k ≡ 0
-HasArity node.Continue k = k ≡ 0
-HasArity node.Error k = k ≡ 0
-HasArity (node.Try strict) k = k ≡ 2
+HasArity node.While k = k ≡ 2
 HasArity (node.Recover c) k = k ≡ 1
 HasArity node.Body k = k ≡ 1
 
@@ -84,16 +77,8 @@ NamesFit core m (node.Spawn k) = NamesMethod core method.Spawn k
 NamesFit core m (node.Binary o) = is_binary o ≡ true
 NamesFit core m k = Unit {0}
 
--- A node of this kind may have a mark: a constructor or a call.
-abbrev pub has_mark : NodeKind → Bool
-has_mark (node.New m) = true
-has_mark (node.Spawn m) = true
-has_mark (node.Call name) = true
-has_mark k = false
-
 -- A node fits the core.
 pub record NodeFits (core : CoreData) (n : ℕ) (x : Node) : Type 0 where
   pub arity : HasArity x.kind (length x.children)
   pub depths : Each (λ i c. (y : Node) → slice_get core.nodes c ≡ Some y → y.depth ≡ inner_depth x.kind x.depth) x.children
   pub names : NamesFit core x.method x.kind
-  pub mark : has_mark x.kind ≡ false → x.mark ≡ mark.Total

@@ -74,8 +74,6 @@ pub struct Method {
     pub params: List<ParamInfo>,
     /// The entity and the form of its result.
     pub result: (u32, Form),
-    /// Whether it may end by an error, without a result.
-    pub partial: bool,
     /// The number of its first slot; the others follow.
     pub first_slot: u32,
     /// How many slots it has.

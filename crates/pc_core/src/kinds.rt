@@ -24,17 +24,6 @@ pub enum Connective {
     Or,
 }
 
-/// How a part of a method may be left before it ends, besides `return`.
-#[derive(Clone, Copy, Debug, PartialEq, Eq)]
-pub enum Exit {
-    /// To what comes after the loop around it.
-    Break,
-    /// To the next turn of the loop around it.
-    Continue,
-    /// To the `else` of the `try` around it, or out of the method.
-    Error,
-}
-
 impl NodeKind {
     /// The slot that a node of this kind defines.
     #[inline(always)]
@@ -64,12 +53,6 @@ impl NodeKind {
             | NodeKind::Seq
             | NodeKind::If
             | NodeKind::While
-            | NodeKind::Repeat
-            | NodeKind::Return
-            | NodeKind::Break
-            | NodeKind::Continue
-            | NodeKind::Error
-            | NodeKind::Try(_)
             | NodeKind::Recover(_)
             | NodeKind::Body => None,
         }
@@ -102,12 +85,6 @@ impl NodeKind {
             | NodeKind::Seq
             | NodeKind::If
             | NodeKind::While
-            | NodeKind::Repeat
-            | NodeKind::Return
-            | NodeKind::Break
-            | NodeKind::Continue
-            | NodeKind::Error
-            | NodeKind::Try(_)
             | NodeKind::Recover(_)
             | NodeKind::Body => None,
         }
@@ -141,12 +118,6 @@ impl NodeKind {
             | NodeKind::Seq
             | NodeKind::If
             | NodeKind::While
-            | NodeKind::Repeat
-            | NodeKind::Return
-            | NodeKind::Break
-            | NodeKind::Continue
-            | NodeKind::Error
-            | NodeKind::Try(_)
             | NodeKind::Recover(_)
             | NodeKind::Body => None,
         }
@@ -180,12 +151,6 @@ impl NodeKind {
             | NodeKind::Seq
             | NodeKind::If
             | NodeKind::While
-            | NodeKind::Repeat
-            | NodeKind::Return
-            | NodeKind::Break
-            | NodeKind::Continue
-            | NodeKind::Error
-            | NodeKind::Try(_)
             | NodeKind::Recover(_)
             | NodeKind::Body => None,
         }
@@ -219,12 +184,6 @@ impl NodeKind {
             | NodeKind::Seq
             | NodeKind::If
             | NodeKind::While
-            | NodeKind::Repeat
-            | NodeKind::Return
-            | NodeKind::Break
-            | NodeKind::Continue
-            | NodeKind::Error
-            | NodeKind::Try(_)
             | NodeKind::Recover(_)
             | NodeKind::Body => None,
         }
@@ -258,12 +217,6 @@ impl NodeKind {
             | NodeKind::Seq
             | NodeKind::If
             | NodeKind::While
-            | NodeKind::Repeat
-            | NodeKind::Return
-            | NodeKind::Break
-            | NodeKind::Continue
-            | NodeKind::Error
-            | NodeKind::Try(_)
             | NodeKind::Recover(_)
             | NodeKind::Body => None,
         }
@@ -297,12 +250,6 @@ impl NodeKind {
             | NodeKind::Seq
             | NodeKind::If
             | NodeKind::While
-            | NodeKind::Repeat
-            | NodeKind::Return
-            | NodeKind::Break
-            | NodeKind::Continue
-            | NodeKind::Error
-            | NodeKind::Try(_)
             | NodeKind::Recover(_)
             | NodeKind::Body => None,
         }
@@ -335,12 +282,6 @@ impl NodeKind {
             | NodeKind::Seq
             | NodeKind::If
             | NodeKind::While
-            | NodeKind::Repeat
-            | NodeKind::Return
-            | NodeKind::Break
-            | NodeKind::Continue
-            | NodeKind::Error
-            | NodeKind::Try(_)
             | NodeKind::Recover(_)
             | NodeKind::Body => None,
         }
@@ -372,12 +313,6 @@ impl NodeKind {
             | NodeKind::Seq
             | NodeKind::If
             | NodeKind::While
-            | NodeKind::Repeat
-            | NodeKind::Return
-            | NodeKind::Break
-            | NodeKind::Continue
-            | NodeKind::Error
-            | NodeKind::Try(_)
             | NodeKind::Recover(_)
             | NodeKind::Body => None,
         }
@@ -411,12 +346,6 @@ impl NodeKind {
             | NodeKind::Seq
             | NodeKind::If
             | NodeKind::While
-            | NodeKind::Repeat
-            | NodeKind::Return
-            | NodeKind::Break
-            | NodeKind::Continue
-            | NodeKind::Error
-            | NodeKind::Try(_)
             | NodeKind::Recover(_)
             | NodeKind::Body => None,
         }
@@ -450,51 +379,6 @@ impl NodeKind {
             | NodeKind::Seq
             | NodeKind::If
             | NodeKind::While
-            | NodeKind::Repeat
-            | NodeKind::Return
-            | NodeKind::Break
-            | NodeKind::Continue
-            | NodeKind::Error
-            | NodeKind::Try(_)
-            | NodeKind::Recover(_)
-            | NodeKind::Body => None,
-        }
-    }
-
-    /// The exit that a `break`, a `continue` or an `error` takes.
-    #[inline(always)]
-    pub fn taken_exit(&self) -> Option<Exit>
-        ensures { result ≡ spec.taken_exit self.now }
-    {
-        match self {
-            NodeKind::Break => Some(Exit::Break),
-            NodeKind::Continue => Some(Exit::Continue),
-            NodeKind::Error => Some(Exit::Error),
-            NodeKind::Number(_)
-            | NodeKind::Truth(_)
-            | NodeKind::Text(_)
-            | NodeKind::Prim(_)
-            | NodeKind::This
-            | NodeKind::Local(_)
-            | NodeKind::Consume(_)
-            | NodeKind::Field(_)
-            | NodeKind::SetField(_)
-            | NodeKind::Define(_)
-            | NodeKind::Assign(_)
-            | NodeKind::New(_)
-            | NodeKind::Spawn(_)
-            | NodeKind::Call(_)
-            | NodeKind::Binary(_)
-            | NodeKind::Not
-            | NodeKind::And
-            | NodeKind::Or
-            | NodeKind::Same(_)
-            | NodeKind::Seq
-            | NodeKind::If
-            | NodeKind::While
-            | NodeKind::Repeat
-            | NodeKind::Return
-            | NodeKind::Try(_)
             | NodeKind::Recover(_)
             | NodeKind::Body => None,
         }

@@ -21,5 +21,5 @@ pub use children::Children;
 pub use cores::Core;
 pub use declarations::{EntityDef, FieldInfo, Method, MethodKind, ParamInfo};
 pub use entity_set::EntitySet;
-pub use kinds::{Connective, Exit, Operation};
-pub use nodes::{Mark, Node, NodeKind, Slot, SlotKind};
+pub use kinds::{Connective, Operation};
+pub use nodes::{Node, NodeKind, Slot, SlotKind};

@@ -73,40 +73,18 @@ pub enum NodeKind {
     Seq,
     /// `if`. The children are the condition, the `then` branch and the `else` branch.
     If,
-    /// `while`. The children are the condition, the body, and the `else` if there is one.
+    /// `while`. The children are the condition and the body.
     While,
-    /// `repeat`. The children are the body, the condition, and the `else` if there is one.
-    Repeat,
-    /// `return`. The child is the value, if there is one.
-    Return,
-    Break,
-    Continue,
-    Error,
-    /// `try`, and whether its body has to be one that may fail. The children are the body and the `else`.
-    Try(bool),
     /// `recover`, with the capability if one is written. The child is the body.
     Recover(Option<Cap>),
     /// The body of a method. The child is its sequence.
     Body,
 }
 
-/// What is written after a call for the method that is called.
-#[derive(Clone, Copy, Debug, PartialEq, Eq)]
-pub enum Mark {
-    /// Nothing: it does not fail.
-    Total,
-    /// `?`: it may fail.
-    Partial,
-    /// It may fail or not. No text has this mark; a `for` has it at its call of `next`.
-    Any,
-}
-
 /// A node: a part of a method's body that is evaluated.
 #[derive(Debug, Drop)]
 pub struct Node {
     pub kind: NodeKind,
-    /// The mark of a constructor or a call. All other nodes have `Total`.
-    pub mark: Mark,
     /// The parts that are evaluated before it finishes, by their numbers, in the order of evaluation.
     pub children: Children,
     /// The number of `recover` bodies around it within its method.

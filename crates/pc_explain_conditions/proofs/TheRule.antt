@@ -11,8 +11,8 @@ use Rattle.pc_caps.specs.declared.capability.Form.TheVariants as form
 use Rattle.pc_core.specs.{CoreData.CoreData, Nodes.{HasArity, NamesFit}, declared.nodes.Node.Node, declared.nodes.NodeKind.NodeKind}
 use Rattle.pc_core.specs.declared.nodes.NodeKind.TheVariants as node
 use Rattle.pc_tree.specs.declared.kinds.Op.{Op}
-use Rattle.pc_rules.specs.{Parts.{says_of, starts, through_notes, notes_of, slot_of}, Fields.incomplete, Control.{starts_method, start_set}, Values.this_form, Operators.{both_read_as, meet_masks, lazy_masks, is_arithmetic, is_comparison, is_equality, is_add, is_xor}, Checks.is_else}
-use Rattle.pc_valid.specs.{Words.{Masks, masks_after}, Exits.without_items}
+use Rattle.pc_rules.specs.{Parts.{says_of, starts, through_notes, notes_of, slot_of}, Fields.incomplete, Control.{starts_method, start_set, without_items}, Values.this_form, Operators.{both_read_as, meet_masks, lazy_masks, is_arithmetic, is_comparison, is_equality, is_add, is_xor}, Checks.is_else}
+use Rattle.pc_valid.specs.Words.{Masks, masks_after}
 use Rattle.pc_rules.proofs.Derivations.{to_reaches}
 use Rattle.pc_check.specs.Inference.{rules_for, with_inferred}
 use Rattle.pc_check.proofs.OneFault.{body_one}

@@ -172,7 +172,6 @@ declared c o first_slot slots first_node body = record {
   receiver = receiver_cap o.member;
   params = params_of c.entities o.member;
   result = result_of c.entities o.owner.kind o.number o.member;
-  partial = false;
   first_slot = first_slot;
   slots = slots;
   first_node = first_node;

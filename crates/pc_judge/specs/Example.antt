@@ -3,7 +3,7 @@
 --     actor Main
 --       new create(env: Env) =>
 --         let a: C iso = C
-use Rattle.std.specs.Prelude.{false, [], ◌∷◌, None, Some, slice_set}
+use Rattle.std.specs.Prelude.{[], ◌∷◌, None, Some, slice_set}
 use Rattle.pc_core.specs.{declared.declarations.Method.Method, CoreData.CoreData, Entities.{built_in, out_field}}
 use Rattle.pc_ann.specs.declared.annotation.Ann.{Ann}
 use Rattle.pc_rules.specs.Example.{four_slots, derivation, at, node_of, noted}
@@ -38,7 +38,6 @@ sets_nothing = record {
   receiver = cap.Ref;
   params = [];
   result = (0, form.Ref);
-  partial = false;
   first_slot = 0;
   slots = 1;
   first_node = 0;

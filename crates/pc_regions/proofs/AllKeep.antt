@@ -3,7 +3,7 @@ use Rattle.pc_core.specs.CoreData.{CoreData}
 use Rattle.pc_ann.specs.declared.annotation.Ann.{Ann}
 use Rattle.pc_semantics.specs.declared.frames.Task.{Task}
 use Rattle.pc_semantics.specs.declared.frames.Task.TheVariants as task
-use Rattle.pc_regions.proofs.{Climbed.ClimbLaw, LiveScope.live_shallow, Schedules.KeepsRegions, Settling.settle, Taking.take, ContextComes.{opens, lends}, ContextGoes.ends, Climbing.{climb, drops}, EvalKeeps.keeps_eval_regions, GetKeeps.keeps_get_regions, PutKeeps.keeps_put_regions, StoreKeeps.regions_store, MakeKeeps.regions_make, SpawnKeeps.regions_spawn, InvokeKeeps.regions_invoke, ApplyKeeps.keeps_apply_regions, ChoicesKeep.{keeps_test_regions, keeps_branch_regions, keeps_discard_regions}, LeaveKeeps.{keeps_loop_regions, keeps_next_regions, keeps_mark_regions, keeps_catch_regions, keeps_blank_regions, keeps_fail_regions}, ReturnOut.return_regions}
+use Rattle.pc_regions.proofs.{Climbed.ClimbLaw, LiveScope.live_shallow, Schedules.KeepsRegions, Settling.settle, Taking.take, ContextComes.{opens, lends}, ContextGoes.ends, Climbing.{climb, drops}, EvalKeeps.keeps_eval_regions, GetKeeps.keeps_get_regions, PutKeeps.keeps_put_regions, StoreKeeps.regions_store, MakeKeeps.regions_make, SpawnKeeps.regions_spawn, InvokeKeeps.regions_invoke, ApplyKeeps.keeps_apply_regions, ChoicesKeep.{keeps_test_regions, keeps_branch_regions, keeps_loop_regions, keeps_discard_regions}, ReturnKeeps.return_regions}
 use Rattle.pc_types.proofs.Needs.{Needs}
 
 -- Values climb.
@@ -11,7 +11,7 @@ climbs : (core : CoreData) (ann : Ann) → Needs core ann → ClimbLaw core
 climbs core ann needs = climb core ann needs settle (drops ends)
 
 pub keeps_regions : (t : Task) → KeepsRegions t
-keeps_regions (task.Eval n) = keeps_eval_regions live_shallow climbs (drops ends) take opens n
+keeps_regions (task.Eval n) = keeps_eval_regions live_shallow climbs take opens n
 keeps_regions (task.Get n) = keeps_get_regions settle climbs n
 keeps_regions (task.Put n) = keeps_put_regions settle take climbs n
 keeps_regions (task.Store n) = regions_store settle take climbs live_shallow n
@@ -21,11 +21,6 @@ keeps_regions (task.Invoke n) = regions_invoke settle lends climbs n
 keeps_regions (task.Apply n) = keeps_apply_regions climbs n
 keeps_regions (task.Test n) = keeps_test_regions climbs n
 keeps_regions (task.Branch n) = keeps_branch_regions climbs n
-keeps_regions (task.Loop n) = keeps_loop_regions live_shallow climbs (drops ends) n
-keeps_regions (task.Next n) = keeps_next_regions live_shallow climbs (drops ends) n
-keeps_regions (task.Mark n h) = keeps_mark_regions live_shallow climbs (drops ends) n h
-keeps_regions (task.Catch n h) = keeps_catch_regions live_shallow climbs (drops ends) n h
+keeps_regions (task.Loop n) = keeps_loop_regions climbs n
 keeps_regions task.Discard = keeps_discard_regions climbs
-keeps_regions task.Blank = keeps_blank_regions live_shallow climbs (drops ends)
-keeps_regions task.Fail = keeps_fail_regions live_shallow climbs (drops ends)
-keeps_regions task.Return = return_regions climbs (drops ends)
+keeps_regions task.Return = return_regions climbs

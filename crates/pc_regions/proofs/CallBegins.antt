@@ -4,7 +4,6 @@ use Rattle.std.proofs.{Common.{inr, sym, subst, ◌∙◌}, lemmas.Option.same_S
 use Rattle.pc_heap.specs.declared.value.Value.{Value}
 use Rattle.pc_caps.specs.Tables.{unalias}
 use Rattle.pc_core.specs.{declared.declarations.Method.Method, declared.nodes.Node.Node, declared.nodes.NodeKind.NodeKind, CoreData.CoreData}
-use Rattle.pc_core.specs.declared.kinds.Exit.TheVariants as exit
 use Rattle.pc_masks.specs.declared.mask.Mask.{Mask}
 use Rattle.pc_ann.specs.{declared.annotation.Note.Note, declared.annotation.Ann.Ann}
 use Rattle.pc_semantics.specs.{declared.frames.Frame.Frame, declared.frames.Task.Task, Configurations.first_frame}
@@ -12,7 +11,7 @@ use Rattle.pc_rules.specs.Parts.{through}
 use Rattle.pc_valid.specs.Words.{Ty, before}
 use Rattle.pc_base.proofs.Bools.{false_true}
 use Rattle.pc_types.proofs.{Types.Want, Tasks.{Within, stacked, Follows, FinishOk}, Needs.Needs}
-use Rattle.pc_regions.proofs.{World.{World, InSlot, Fits}, StackForms.{Entry, Rises, tasks_rise, TasksRise}, Fitting.{Entered, GoesTo, FramesFit}, FirstFrame.{ArgumentsAt, begins_active, begins_body}, CallerKept.{Rests, waits}}
+use Rattle.pc_regions.proofs.{World.{World, InSlot, Fits}, StackForms.{Entry, Rises, TasksRise}, Fitting.{Entered, GoesTo, FramesFit}, FirstFrame.{ArgumentsAt, begins_active, begins_body}, CallerKept.{Rests, waits}}
 
 -- The same node and note, by another name.
 abbrev pub finish_at : (core : CoreData) (ann : Ann) (m : ℕ) (l st : Mask) (g : List Want) (does : NodeKind → Bool) (n : ℕ) (go : Mask → Mask → List Want → Type 0) → FinishOk core ann m l st g does n go → (x : Node) (t : Note) → slice_get core.nodes n ≡ Some x → slice_get ann.notes n ≡ Some t → FinishOk core ann m l st g does n go
@@ -40,11 +39,11 @@ pub enters_frames : (core : CoreData) (ann : Ann) (needs : Needs core ann) (u : 
     → Rests core ann u i m base d live below slots rest fs → (after : Mask) (t : Option Ty) → Within after live → Rises core m after (record { ty = t; depth = d }) below (λ c l g. TasksRise core ann m ts c l g)
     → (k : ℕ) (own : Method) → slice_get core.methods k ≡ Some own → k ≢ 0 → (body : ℕ) → own.body ≡ Some body → (this : Value) (values : List Value) → u.top i ≡ b
     → Fits u (InSlot i (suc (length fs)) 0 b) (unalias own.receiver) this → ArgumentsAt u (λ n. InSlot i (suc (length fs)) (suc n) b) own.params values
-    → Entered u i own t base (base + d) b own.kind → GoesTo core own.result t → (own.partial ≡ true → (tasks_rise core ann m ts).out exit.Error d after below)
+    → Entered u i own t base (base + d) b own.kind → GoesTo core own.result t
     → FramesFit core ann u i (first_frame k own this values body ∷ record { method = m; slots = slots; stack = rest; tasks = ts } ∷ fs)
-enters_frames core ann needs u i m base d b live below slots rest fs ts p after t less o k own is_own other body has this values top this_fits fit entered result error = (
+enters_frames core ann needs u i m base d b live below slots rest fs ts p after t less o k own is_own other body has this values top this_fits fit entered result = (
   begins_active core ann needs k own is_own other u i (suc (length fs)) b this values this_fits fit top,
   inr (begins_body core ann needs k own is_own other body has),
   λ e. absurd (false_true e),
-  (own, is_own, waits core ann u i m base d live below slots rest fs p after t ts less o b own entered result error, p.wait),
+  (own, is_own, waits core ann u i m base d live below slots rest fs p after t ts less o b own entered result, p.wait),
 )

@@ -5,11 +5,11 @@ use Rattle.pc_caps.specs.{Computed.{fits, is_below}, Tables.unalias}
 use Rattle.pc_core.specs.declared.declarations.MethodKind.TheVariants as method
 use Rattle.pc_core.specs.{declared.nodes.Node.Node, CoreData.CoreData}
 use Rattle.pc_core.specs.declared.nodes.NodeKind.TheVariants as nodes
-use Rattle.pc_base.proofs.Options.{bind_some}
+use Rattle.pc_base.proofs.Options.{bind_some, kept}
 use Rattle.pc_ann.specs.{declared.annotation.Note.Note, declared.annotation.Ann.Ann}
-use Rattle.pc_rules.specs.{Parts.{says_of, through}, Calls.{is_function, is_isolated, is_lent, lends, recovered_result, mark_fits}, Rules.said_by}
+use Rattle.pc_rules.specs.{Parts.{says_of, through}, Calls.{is_function, is_isolated, is_lent, lends, recovered_result}, Rules.said_by}
 use Rattle.pc_valid.specs.Words.{before}
-use Rattle.pc_rules.proofs.{ByNumber.{arguments, arguments_go, arguments_sendable, called, calls, recovers, call_says, callrecover_says, IsSaid}, OneRule.kept_marked}
+use Rattle.pc_rules.proofs.ByNumber.{arguments, arguments_go, arguments_sendable, called, calls, recovers, call_says, callrecover_says, IsSaid}
 use Rattle.pc_types.proofs.InverseCalls.{CalledRule, SendRule, TextRule, said_ty, function_is, call_rules, called_of, send_inverse, builtin_inverse, at_kind}
 
 -- A function is called on a receiver that may be stored where the method has it.
@@ -34,7 +34,7 @@ module _ (core : CoreData) (ann : Ann) (x : Node) (name : ℕ) (t : Note) where
       let i = bind_some (called core ann x name) _ (said_by t) e in
       let f = bind_some (slice_get core.methods i.0.1) _ (said_by t) i.2 in
       let n = bind_some (through ann x.children (before t)) _ (said_by t) f.2 in
-      let p = kept_marked (calls core ann x i.0.0 f.0) (mark_fits x.mark f.0) (Some (says_of (Some f.0.result) n.0)) (said_by t) n.2 in
+      let p = kept (calls core ann x i.0.0 f.0) (Some (says_of (Some f.0.result) n.0)) (said_by t) n.2 in
       let a = and_parts (is_function f.0.kind) (arguments_go core ann (arguments x.children) f.0.params && fits i.0.0.1 f.0.receiver) p.0 in
       let b = and_parts (arguments_go core ann (arguments x.children) f.0.params) (fits i.0.0.1 f.0.receiver) a.1 in
       record {
@@ -49,7 +49,7 @@ module _ (core : CoreData) (ann : Ann) (x : Node) (name : ℕ) (t : Note) where
       let i = bind_some (called core ann x name) _ (said_by t) e in
       let f = bind_some (slice_get core.methods i.0.1) _ (said_by t) i.2 in
       let n = bind_some (through ann x.children (before t)) _ (said_by t) f.2 in
-      let p = kept_marked (recovers core ann x i.0.0 f.0) (mark_fits x.mark f.0) (Some (says_of (recovered_result f.0.result) n.0)) (said_by t) n.2 in
+      let p = kept (recovers core ann x i.0.0 f.0) (Some (says_of (recovered_result f.0.result) n.0)) (said_by t) n.2 in
       let a = and_parts (is_function f.0.kind && arguments_go core ann (arguments x.children) f.0.params) (lends i.0.0.1 f.0.receiver && arguments_sendable ann (arguments x.children) f.0.params) p.0 in
       let b = and_parts (is_function f.0.kind) (arguments_go core ann (arguments x.children) f.0.params) a.0 in
       let l = and_parts (lends i.0.0.1 f.0.receiver) (arguments_sendable ann (arguments x.children) f.0.params) a.1 in

@@ -5,14 +5,13 @@ use Rattle.std.proofs.{Common.{inr, ap, sym, subst, ◌∙◌, arith}, lemmas.Bo
 use Rattle.pc_heap.specs.{Objects.ObjectMap, declared.value.Address.Address, declared.value.Value.Value}
 use Rattle.pc_caps.specs.Tables.{unalias}
 use Rattle.pc_core.specs.{declared.declarations.Method.Method, declared.nodes.NodeKind.NodeKind, CoreData.CoreData}
-use Rattle.pc_core.specs.declared.kinds.Exit.TheVariants as exit
 use Rattle.pc_masks.specs.declared.mask.Mask.{Mask}
 use Rattle.pc_ann.specs.declared.annotation.Ann.{Ann}
 use Rattle.pc_semantics.specs.{declared.frames.Frame.Frame, declared.frames.Task.Task, Configurations.{Around, popped}}
 use Rattle.pc_rules.specs.Parts.{through}
 use Rattle.pc_valid.specs.Words.{Ty, Masks, before}
 use Rattle.pc_types.proofs.{Tasks.Within, Basic.within_same, Callers.left_within}
-use Rattle.pc_regions.proofs.{World.{Place, InSlot, OnStack, InField, InMail, World, FitsSome, WorldOk}, StackForms.{Entry, Shallow, tasks_rise, TasksRise, FinishRises, Rises, SlotsShallow}, Fitting.{ThisFits, SlotsFit, StackFits, Entered, OpenedTo, GoesTo, Awaits, WaitFits, FieldsFit}, MoveFits.{elsewhere, Others, Situated}, Changes.Shifts, Shifts.{others_kept, fields_kept, below_kept, below_under}, Arguments.{Pulled, pull, ChildrenStand, children_stand}, ArgumentsSettle.from_place, Rising.{Pushes, not_here}, Waiting.{this_low, slots_low, stack_low}}
+use Rattle.pc_regions.proofs.{World.{Place, InSlot, OnStack, InField, InMail, World, FitsSome, WorldOk}, StackForms.{Entry, Shallow, TasksRise, FinishRises, Rises, SlotsShallow}, Fitting.{ThisFits, SlotsFit, StackFits, Entered, OpenedTo, GoesTo, Awaits, WaitFits, FieldsFit}, MoveFits.{elsewhere, Others, Situated}, Changes.Shifts, Shifts.{others_kept, fields_kept, below_kept, below_under}, Arguments.{Pulled, pull, ChildrenStand, children_stand}, ArgumentsSettle.from_place, Rising.{Pushes, not_here}, Waiting.{this_low, slots_low, stack_low}}
 
 -- ---- places from a depth of the stack on
 
@@ -153,8 +152,8 @@ module _ (core : CoreData) (ann : Ann) (around : Around) (f : Frame) (fs : List 
 -- A frame that waits, when a value might be pushed.
 module _ (core : CoreData) (ann : Ann) (w : World) (i m base d : ℕ) (live : Mask) (below : List Entry) (slots : List (Option Value)) (vs : List Value) (fs : List Frame) (p : Rests core ann w i m base d live below slots vs fs) where
   abbrev pub waits : (after : Mask) (t : Option Ty) (ts : List Task) → Within after live → Rises core m after (record { ty = t; depth = d }) below (λ c l g. TasksRise core ann m ts c l g)
-      → (b : ℕ) (x : Method) → Entered w i x t base (base + d) b x.kind → GoesTo core x.result t → (x.partial ≡ true → (tasks_rise core ann m ts).out exit.Error d after below) → Awaits core ann w i (length fs) b x (record { method = m; slots = slots; stack = vs; tasks = ts })
-  waits after t ts less o b x entered result error = record {
+      → (b : ℕ) (x : Method) → Entered w i x t base (base + d) b x.kind → GoesTo core x.result t → Awaits core ann w i (length fs) b x (record { method = m; slots = slots; stack = vs; tasks = ts })
+  waits after t ts less o b x entered result = record {
     holds = record {
       base = base;
       live = after;
@@ -175,5 +174,4 @@ module _ (core : CoreData) (ann : Ann) (w : World) (i m base d : ℕ) (live : Ma
     less = o.left;
     not_deeper = o.slots;
     next = o.next;
-    error = error;
   }

@@ -1,19 +1,17 @@
 -- A value goes up its way, step by step.
-use Rattle.std.specs.{Prelude.{◌≡◌, ℕ, suc, ◌+◌, ◌-◌, ◌<◌, ◌≤◌, Bool, true, false, ◌&&◌, ◌||◌, cond, [], ◌∷◌, Option, Some, None, nat_eq, nat_lt, slice_get, refl}, FinMap.get}
+use Rattle.std.specs.{Prelude.{◌≡◌, ℕ, suc, ◌+◌, ◌-◌, ◌<◌, ◌≤◌, Bool, true, false, ◌&&◌, ◌||◌, cond, [], ◌∷◌, Option, Some, None, nat_eq, nat_lt, refl}, FinMap.get}
 use Rattle.std.proofs.{Common.{inl, ap, sym, subst, ◌∙◌, arith}, lemmas.Bool.{eq-eqb, ltb-false, le-ltb, or_from}, lemmas.Option.same_Some}
 use Rattle.pc_heap.specs.{Objects.{ObjectMap, Object}, declared.value.Address.Address, declared.value.Value.Value, declared.value.Value.TheVariants.{Num, Truth, Text, Prim, At}}
 use Rattle.pc_caps.specs.{Tables.{unalias, lift}, Computed.fits, declared.capability.Cap.Cap, declared.capability.Form.Form}
 use Rattle.pc_caps.specs.declared.capability.Form.TheVariants as form
-use Rattle.pc_tree.specs.{declared.kinds.EntityKind.EntityKind, Kinds.{is_abstract, may_have_fields}}
-use Rattle.pc_tree.specs.declared.kinds.EntityKind.TheVariants as entities
-use Rattle.pc_core.specs.{CoreData.CoreData, declared.declarations.EntityDef.EntityDef}
+use Rattle.pc_core.specs.CoreData.{CoreData}
 use Rattle.pc_base.specs.Lists.{◌>>=◌}
 use Rattle.pc_ann.specs.declared.annotation.Ann.{Ann}
 use Rattle.pc_valid.specs.Words.{Ty}
-use Rattle.pc_rules.specs.Control.{is_plain_kind, is_plain_entity, is_plain, recovered}
-use Rattle.pc_base.proofs.{Options.kept, Bools.false_true}
+use Rattle.pc_rules.specs.Control.{recovered}
+use Rattle.pc_base.proofs.Options.{kept}
 use Rattle.pc_types.proofs.{Types.{OfType, OfSome}, Needs.Needs, Basic.of_lower, Tables.{below_sees, recovered_sees}, Values.is_truth}
-use Rattle.pc_regions.proofs.{World.{Place, InSlot, OnStack, InField, InMail, Unused, Opened, Froze, Held, Child, Standing, World, Frozen, ice, under_ice, Seen, same, under, frozen, Fits, FitsSome, Alias, AliasIn, AliasSome, WorldOk}, StackForms.{Entry, Below, Ascent, Joins, Decides, Recovers, Reforms, recovered_type, ascend, MayAscend, top_of}, Fitting.OpenedTo, Changes.{standing, lowered, without_last, Shifts}, Settled.{NearFrom, Near, SettleLaw}, ContextLaws.EndLaw, Climbed.{passed, Stands, Climbed, ClimbLaw}, Shifts.{shifts_both, shifts_none, shifts_less}, StandsOtherwise.{stand_here, held_used, froze_used}, Closing.{fits_closed, opened_closed, closed_shifts}, ValueKeeps.{tag_fits, no_alias, val_moved}, Waiting.top_down}
+use Rattle.pc_regions.proofs.{World.{Place, InSlot, OnStack, InField, InMail, Unused, Opened, Froze, Held, Child, Standing, World, Frozen, ice, under_ice, Seen, same, under, frozen, Fits, FitsSome, Alias, AliasIn, AliasSome, WorldOk}, StackForms.{Entry, Below, Ascent, Joins, Decides, Recovers, recovered_type, ascend, MayAscend, top_of}, Fitting.OpenedTo, Changes.{standing, lowered, without_last, Shifts}, Settled.{NearFrom, Near, SettleLaw}, ContextLaws.EndLaw, Climbed.{passed, Stands, Climbed, ClimbLaw}, Shifts.{shifts_both, shifts_none, shifts_less}, StandsOtherwise.{stand_here, held_used, froze_used}, Closing.{fits_closed, opened_closed, closed_shifts}, ValueKeeps.{tag_fits, no_alias, val_moved}, Waiting.top_down}
 
 -- ---- what is passed
 
@@ -112,47 +110,6 @@ drops ends w objects count ok i here b low gone =
 
 -- ---- steps
 
--- A primitive has no fields, and nothing conforms to it.
-plain_parts : (k : EntityKind) → is_plain_kind k ≡ true → (is_abstract k ≡ false) × (may_have_fields k ≡ true → ⊥)
-plain_parts entities.Primitive e = (refl, λ h. false_true h)
-plain_parts k e = absurd (false_true e)
-
-plain_found : (core : CoreData) (e : ℕ) (o : Option EntityDef) → slice_get core.entities e ≡ o → is_plain_entity o ≡ true → (x : EntityDef) × (slice_get core.entities e ≡ Some x) × (is_plain_kind x.kind ≡ true)
-plain_found core e None is h = absurd (false_true h)
-plain_found core e (Some x) is h = (x, is, h)
-
-module _ (core : CoreData) (ann : Ann) (needs : Needs core ann) (objects : ObjectMap) (e : ℕ) (f : Form) (plain : is_plain core e ≡ true) where
-  -- A plain value is no address.
-  no_address : (a : Address) → OfType core objects (e, f) (At a) → ⊥
-  no_address a o =
-      let p = plain_found core e (slice_get core.entities e) refl plain in
-      let k = plain_parts p.0.kind p.2 in
-      let same : o.entity ≡ e = needs.only_traits o.entity e p.0 o.below p.1 k.0 in
-      let is : o.kind.0 ≡ p.0 = same_Some o.kind.0 p.0 (sym o.kind.1 ∙ ap (slice_get core.entities) same ∙ p.1) in
-      k.1 (ap (λ (x : EntityDef). may_have_fields x.kind) (sym is) ∙ o.kind.2)
-
-  -- So it is of each form, it fits each place, and is an alias of each form.
-  plain_typed : (g : Form) (v : Value) → OfType core objects (e, f) v → OfType core objects (e, g) v
-  plain_typed g (At a) o = absurd (no_address a o)
-  plain_typed g (Num n) o = record { entity = o.entity; is_entity = o.is_entity; below = o.below; kind = o.kind; finished = λ h. tt }
-  plain_typed g (Truth b) o = record { entity = o.entity; is_entity = o.is_entity; below = o.below; kind = o.kind; finished = λ h. tt }
-  plain_typed g (Text s) o = record { entity = o.entity; is_entity = o.is_entity; below = o.below; kind = o.kind; finished = λ h. tt }
-  plain_typed g (Prim p) o = record { entity = o.entity; is_entity = o.is_entity; below = o.below; kind = o.kind; finished = λ h. tt }
-
-  plain_fits : (w : World) (p : Place) (g : Form) (v : Value) → OfType core objects (e, f) v → Fits w p g v
-  plain_fits w p g (At a) o = absurd (no_address a o)
-  plain_fits w p g (Num n) o = tt
-  plain_fits w p g (Truth b) o = tt
-  plain_fits w p g (Text s) o = tt
-  plain_fits w p g (Prim q) o = tt
-
-  plain_alias : (w : World) (i b k : ℕ) (g : Form) (v : Value) → OfType core objects (e, f) v → Alias w i b k g v
-  plain_alias w i b k g (At a) o = absurd (no_address a o)
-  plain_alias w i b k g (Num n) o = tt
-  plain_alias w i b k g (Truth c) o = tt
-  plain_alias w i b k g (Text s) o = tt
-  plain_alias w i b k g (Prim q) o = tt
-
 module _ (core : CoreData) (ann : Ann) (needs : Needs core ann) (settle : SettleLaw) (drop : DropLaw) where
   module _ (w : World) (objects : ObjectMap) (count i h n base : ℕ) (e : Entry) (v : Value) (s : Stands core w objects count i h n base e v) where
     abbrev place : Place
@@ -220,26 +177,6 @@ module _ (core : CoreData) (ann : Ann) (needs : Needs core ann) (settle : Settle
               typed = subst (λ (u : Value). OfType core objects (2, form.Val) u) (sym b.1) typed;
               fits = subst (λ (u : Value). Fits w place form.Val u) (sym b.1) tt;
               alias = subst (λ (u : Value). Alias w i base (base + e.depth) form.Val u) (sym b.1) tt;
-            };
-            shifts = shifts_none w objects count i base (passed i h n (base + e.depth)) s.world;
-          },
-        )
-
-    -- ---- another form
-
-    reforms : (f : Form) (t : Ty) → e.ty ≡ Some t → is_plain core t.0 ≡ true → (x : World) × Climbed core w x objects count i h n base (record { ty = Some (t.0, f); depth = e.depth }) v
-    reforms f t is plain =
-        let o = typed_at t is in (
-          w,
-          record {
-            stands = record {
-              world = s.world;
-              here = s.here;
-              top = s.top;
-              opened = s.opened;
-              typed = plain_typed core ann needs objects t.0 t.1 plain f v o;
-              fits = plain_fits core ann needs objects t.0 t.1 plain w place f v o;
-              alias = plain_alias core ann needs objects t.0 t.1 plain w i base (base + e.depth) f v o;
             };
             shifts = shifts_none w objects count i base (passed i h n (base + e.depth)) s.world;
           },
@@ -458,9 +395,6 @@ module _ (core : CoreData) (ann : Ann) (needs : Needs core ann) (settle : Settle
     step (Joins None) may = joins_none
     step (Joins (Some g)) may = joins_some g may.0 may.1 may.2
     step Decides may = decides may.0 may.1 may.2
-    step (Reforms g) may =
-        let got = reforms g.1 may.0 may.1 may.3 in
-        (got.0, subst (λ (k : ℕ). Climbed core w got.0 objects count i h n base (record { ty = Some (k, g.1); depth = e.depth }) v) may.2 got.1)
     step (Recovers k) may =
         let got = recovers may.4 k may.0 may.1 may.2 may.3 in
         let is : Some (may.0.0, may.1) ≡ recovered_type k e.ty = sym (ap (recovered_type k) may.2 ∙ ap (λ (o : Option Form). o >>= λ f. Some (may.0.0, f)) may.3) in

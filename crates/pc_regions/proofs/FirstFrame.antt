@@ -10,7 +10,7 @@ use Rattle.pc_ann.specs.declared.annotation.Ann.{Ann}
 use Rattle.pc_masks.specs.{Masks.first, MaskLaws.first_bits}
 use Rattle.pc_semantics.specs.Parts.{first_slots}
 use Rattle.pc_rules.proofs.ByNumber.{slot_of}
-use Rattle.pc_regions.proofs.{World.{World, Place, InSlot, InMail, Fits}, StackForms.{BodyRises, tasks_rise, SlotsShallow}, Fitting.{ThisFits, SlotsFit, Holds, Active, OpenedTo, MessageFits}}
+use Rattle.pc_regions.proofs.{World.{World, Place, InSlot, InMail, Fits}, StackForms.{BodyRises, SlotsShallow}, Fitting.{ThisFits, SlotsFit, Holds, Active, OpenedTo, MessageFits}}
 use Rattle.pc_types.proofs.{Needs.Needs, Needed.{first_own, param_own}, Notes.slot_at, Begin.begin_ok}
 
 -- The arguments, each at its place, fit the parameters.
@@ -110,7 +110,7 @@ module _ (core : CoreData) (ann : Ann) (needs : Needs core ann) (m : ℕ) (f : M
       shallow = tt;
     }
 
-  pub begins_body : (b : ℕ) → f.body ≡ Some b → BodyRises core ann m 0 (first (1 + length f.params)) [] b (tasks_rise core ann m [])
+  pub begins_body : (b : ℕ) → f.body ≡ Some b → BodyRises core ann m 0 (first (1 + length f.params)) [] b
   begins_body b has =
       let k = begin_ok core ann needs m b f at has in
-      record { node = k.node; is_node = k.is_node; note = k.note; is_note = k.is_note; own = k.own; is_body = k.is_body; outer = refl; empty = refl; live = k.live; exits = λ x e h. k.exits x e h }
+      record { node = k.node; is_node = k.is_node; note = k.note; is_note = k.is_note; own = k.own; is_body = k.is_body; outer = refl; empty = refl; live = k.live }

@@ -5,7 +5,6 @@ use Rattle.pc_heap.specs.{Objects.{ObjectMap, Object}, declared.value.Address.Ad
 use Rattle.pc_caps.specs.{Tables.{unalias, sendable_form}, declared.capability.Cap.Cap}
 use Rattle.pc_core.specs.{declared.declarations.EntityDef.EntityDef, declared.declarations.FieldInfo.FieldInfo, declared.declarations.Method.Method, declared.declarations.MethodKind.MethodKind, declared.declarations.ParamInfo.ParamInfo, declared.nodes.Slot.Slot, CoreData.CoreData}
 use Rattle.pc_core.specs.declared.declarations.MethodKind.TheVariants as method
-use Rattle.pc_core.specs.declared.kinds.Exit.TheVariants as exit
 use Rattle.pc_masks.specs.{declared.mask.Mask.Mask, Masks.IsInMask}
 use Rattle.pc_ann.specs.declared.annotation.Ann.{Ann}
 use Rattle.pc_semantics.specs.{declared.actors.Actor.Actor, declared.frames.Frame.Frame, declared.mailbox.Message.Message, Configurations.Configuration}
@@ -13,7 +12,7 @@ use Rattle.pc_sub.specs.Declarations.{isolates}
 use Rattle.pc_valid.specs.Words.{Ty}
 use Rattle.pc_rules.proofs.ByNumber.{slot_of}
 use Rattle.pc_types.proofs.Tasks.{Within}
-use Rattle.pc_regions.proofs.{World.{World, Frozen, Opened, InSlot, OnStack, InField, InMail, Fits, FitsSome, AliasSome, Over, WorldOk}, StackForms.{Entry, Shallow, Below, Ascent, Climbs, top_of, SlotsShallow, tasks_rise, TasksRise, uses_top}}
+use Rattle.pc_regions.proofs.{World.{World, Frozen, Opened, InSlot, OnStack, InField, InMail, Fits, FitsSome, AliasSome, Over, WorldOk}, StackForms.{Entry, Shallow, Below, Ascent, Climbs, top_of, SlotsShallow, TasksRise, uses_top}}
 
 -- ---- one frame, of actor i, with h frames below it
 
@@ -65,7 +64,7 @@ GoesTo core r None = Unit {0}
 GoesTo core r (Some t) = Below core r t
 
 -- The frame waits for what method x leaves, whose frame began at level b: the value of a node of this type and depth, which then
--- goes its way up; or for its error.
+-- goes its way up.
 pub record Awaits (core : CoreData) (ann : Ann) (w : World) (i h b : ℕ) (x : Method) (f : Frame) : Type 0 where
   pub holds : Holds core ann w i h f.method f.slots f.stack
   pub call : Entry
@@ -80,8 +79,6 @@ pub record Awaits (core : CoreData) (ann : Ann) (w : World) (i h b : ℕ) (x : M
   pub less : Within low holds.live
   pub not_deeper : SlotsShallow core f.method low (top_of way call).depth
   pub next : TasksRise core ann f.method f.tasks (top_of way call).depth low (top_of way call ∷ holds.entries)
-  -- if the method may fail, the frame may be left from where it waits
-  pub error : x.partial ≡ true → (tasks_rise core ann f.method f.tasks).out exit.Error call.depth holds.live holds.entries
 
 abbrev pub WaitFits : CoreData → Ann → World → ℕ → ℕ → ℕ → List Frame → Type 0
 WaitFits core ann w i b m [] = b ≡ 0

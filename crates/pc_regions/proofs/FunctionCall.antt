@@ -1,5 +1,5 @@
 -- A call of a function, by regions: the receiver and the arguments settle in the slots of the frame that begins.
-use Rattle.std.specs.{Prelude.{◌≡◌, ◌≢◌, ℕ, suc, ◌+◌, ◌-◌, ◌<◌, ◌≤◌, Bool, true, false, ◌&&◌, ◌||◌, cond, List, [], ◌∷◌, ◌++◌, length, Option, Some, None, nat_eq, nat_lt, refl}, Option.option_map_or}
+use Rattle.std.specs.Prelude.{◌≡◌, ◌≢◌, ℕ, suc, ◌+◌, ◌-◌, ◌<◌, ◌≤◌, Bool, true, false, ◌&&◌, ◌||◌, cond, List, [], ◌∷◌, ◌++◌, length, Option, Some, None, nat_eq, nat_lt, refl}
 use Rattle.std.proofs.{Common.{inl, inr, ap, sym, subst, ◌∙◌, arith}, lemmas.Bool.{eq-eqb, ne_eqb, le-ltb, or_from, and_right}}
 use Rattle.pc_heap.specs.{Objects.ObjectMap, declared.value.Address.Address, declared.value.Value.Value, declared.value.Value.TheVariants.{Num, Truth, Text, Prim, At}}
 use Rattle.pc_caps.specs.{Computed.is_below, Closure.below_iff, Tables.{unalias, sendable_form}, declared.capability.Cap.Cap, declared.capability.Form.Form}
@@ -7,18 +7,17 @@ use Rattle.pc_caps.specs.declared.capability.Cap.TheVariants as cap
 use Rattle.pc_caps.specs.declared.capability.Form.TheVariants as form
 use Rattle.pc_core.specs.{declared.declarations.Method.Method, declared.declarations.MethodKind.MethodKind, declared.nodes.NodeKind.NodeKind, CoreData.CoreData}
 use Rattle.pc_core.specs.declared.declarations.MethodKind.TheVariants as method
-use Rattle.pc_core.specs.declared.kinds.Exit.TheVariants as exit
 use Rattle.pc_core.specs.declared.nodes.NodeKind.TheVariants as nodes
 use Rattle.pc_masks.specs.declared.mask.Mask.{Mask}
-use Rattle.pc_ann.specs.{declared.annotation.Note.Note, declared.annotation.Ann.Ann}
+use Rattle.pc_ann.specs.declared.annotation.Ann.{Ann}
 use Rattle.pc_semantics.specs.{declared.frames.Frame.Frame, declared.frames.Task.Task, Configurations.{Around, first_frame, with_stack, popped}, Calls.invoke_task}
 use Rattle.pc_semantics.specs.declared.frames.Task.TheVariants as task
-use Rattle.pc_rules.specs.{Parts.{type_of, notes_of}, Calls.{is_isolated, is_lent, recovered_result}}
-use Rattle.pc_valid.specs.{Words.Ty, Exits.may_fail}
+use Rattle.pc_rules.specs.{Parts.type_of, Calls.{is_isolated, is_lent, recovered_result}}
+use Rattle.pc_valid.specs.Words.{Ty}
 use Rattle.pc_rules.proofs.ByNumber.{arguments}
 use Rattle.pc_base.proofs.Bools.{false_true}
-use Rattle.pc_types.proofs.{Types.OfKind, Tasks.{FinishOk, invokes, TasksOk}, Moves.Runs, Needs.Needs, Notes.left_at, Values.own_no_trait, InverseCalls.CalledRule, Popped.{popped_is, receiver_last, arguments_count}, Callers.{counts, not_print}, InvokeTask.{called_is, no_behaviour, Received, received}}
-use Rattle.pc_regions.proofs.{World.{Place, InSlot, OnStack, World, home, same, Over, over_part, FitsIn, Fits, FitsSome, Alias, AliasIn, AliasSome, WorldOk}, StackForms.{Entry, Shallow, FinishRises, tasks_rise, TasksRise, Below, piled}, Fitting.{StackFits, Entered, OpenedTo, GoesTo, SendableSome, TopAlias, FieldsFit}, MoveFits.{Others, Turned, Situated, RegionMoveOk}, Changes.{lent, Shifts}, Settled.SettleLaw, ContextLaws.{higher, LentLaw}, Shifts.{shifts_both, lower_shift}, CallForms.{CallRule, LendRule}, Arguments.{ArgumentsStand, Pulled, pull, pulled_is, piled_last, stands_below}, FirstFrame.ArgumentsAt, Calm.{calm_wider, calm_both, calm_same}, ArgumentsSettle.{lower_still, near_home, the_place, from_place, one_later, PassedOne, pass_near, pass_all, stand_under}, CallerKept.{from_elsewhere, from_lower, from_under, Rests, LeftAbove, live_left, follows_at, fields_on, others_on, rests_on, fields_low, others_low, rests_low}, CallBegins.{finish_at, enters_frames}, Rising.higher_elsewhere}
+use Rattle.pc_types.proofs.{Types.OfKind, Tasks.{FinishOk, invokes, TasksOk}, Moves.Runs, Needs.Needs, Values.own_no_trait, InverseCalls.CalledRule, Popped.{popped_is, receiver_last, arguments_count}, Callers.{counts, not_print}, InvokeTask.{no_behaviour, Received, received}}
+use Rattle.pc_regions.proofs.{World.{Place, InSlot, OnStack, World, home, same, Over, over_part, FitsIn, Fits, FitsSome, Alias, AliasIn, AliasSome, WorldOk}, StackForms.{Entry, Shallow, FinishRises, TasksRise, Below, piled}, Fitting.{StackFits, Entered, OpenedTo, GoesTo, SendableSome, TopAlias, FieldsFit}, MoveFits.{Others, Turned, Situated, RegionMoveOk}, Changes.{lent, Shifts}, Settled.SettleLaw, ContextLaws.{higher, LentLaw}, Shifts.{shifts_both, lower_shift}, CallForms.{CallRule, LendRule}, Arguments.{ArgumentsStand, Pulled, pull, pulled_is, piled_last, stands_below}, FirstFrame.ArgumentsAt, Calm.{calm_wider, calm_both, calm_same}, ArgumentsSettle.{lower_still, near_home, the_place, from_place, one_later, PassedOne, pass_near, pass_all, stand_under}, CallerKept.{from_elsewhere, from_lower, from_under, Rests, LeftAbove, live_left, follows_at, fields_on, others_on, rests_on, fields_low, others_low, rests_low}, CallBegins.{finish_at, enters_frames}, Rising.higher_elsewhere}
 
 -- ---- what was on the stack
 
@@ -202,18 +201,7 @@ module _ (settle : SettleLaw) (core : CoreData) (ann : Ann) (needs : Needs core 
       in
       subst (λ (o : Option Ty). AliasSome w around.actor s.active.holds.base (w.top around.actor) o c.this) by.is_receiver top
 
-  -- If the method that is called may fail, the frame may be left from behind the call.
-  abbrev pub Fails : Type 0
-  Fails = (ns : List Note) → notes_of ann.notes g.node.children ≡ Some ns → may_fail core ns g.node.kind ≡ true → (tasks_rise core ann f.method f.tasks).out exit.Error s.active.depth g.note.live_after g.below
-
-  module _ (fails : Fails) (by : CalledRule core ann g.node name g.note) (kind : by.own.kind ≡ method.Fun) (c : Calls by) where
-    -- So may the one that is found.
-    error : c.found.own.partial ≡ true → (tasks_rise core ann f.method f.tasks).out exit.Error s.active.depth g.note.live_after g.below
-    error partial =
-        let l = left_at core ann needs n g.node g.note g.is_node g.is_note in
-        fails l.notes l.are_notes
-        (ap (may_fail core l.notes) is_call ∙ ap (λ (o : Option Method). option_map_or (λ (x : Method). x.partial) o false) (called_is core ann needs around f fs r n here name is_call by l.notes l.are_notes) ∙ c.found.stands.partial partial)
-
+  module _ (by : CalledRule core ann g.node name g.note) (kind : by.own.kind ≡ method.Fun) (c : Calls by) where
     fun : c.found.own.kind ≡ method.Fun
     fun = c.found.kind ∙ kind
 
@@ -249,7 +237,7 @@ module _ (settle : SettleLaw) (core : CoreData) (ann : Ann) (needs : Needs core 
           frames = enters_frames core ann needs u around.actor f.method s.active.holds.base s.active.depth b s.active.holds.live g.below f.slots c.popped.rest fs f.tasks rests g.note.live_after g.note.ty
               (live_left core ann around f fs (task.Invoke n ∷ f.tasks) w s invokes n go g by.behind by.is_behind by.live)
               (follows_at core ann around f fs (task.Invoke n ∷ f.tasks) w s invokes n go g)
-              c.found.number c.found.own c.found.is_own other body.0 body.1 c.this c.popped.values top this_fits fit (entered_fun u around.actor c.found.own g.note.ty s.active.holds.base level b c.found.own.kind fun entered) result error;
+              c.found.number c.found.own c.found.is_own other body.0 body.1 c.this c.popped.values top this_fits fit (entered_fun u around.actor c.found.own g.note.ty s.active.holds.base level b c.found.own.kind fun entered) result;
         })
 
     -- The receiver has settled at the level of the node.
@@ -277,22 +265,22 @@ module _ (settle : SettleLaw) (core : CoreData) (ann : Ann) (needs : Needs core 
   below_result : (by : CalledRule core ann g.node name g.note) (c : Calls by) → Below core c.found.own.result by.own.result
   below_result by c = (needs.under c.found.own.result.0 by.own.result.0 (inl c.found.stands.entity), (below_iff c.found.own.result.1 by.own.result.1).1 c.found.stands.form)
 
-  pub call_ok : Fails → CallRule core ann g.node name g.note → RegionMoveOk core ann w around fs (invoke_task core around f g.node.children (nodes.Call name))
-  call_ok fails rule =
+  pub call_ok : CallRule core ann g.node name g.note → RegionMoveOk core ann w around fs (invoke_task core around f g.node.children (nodes.Call name))
+  call_ok rule =
       let by = rule.by in
       let c = calls by in
       let i : ℕ = around.actor in
       let h : ℕ = length fs in
       let g2 : Form = unalias c.found.own.receiver in
       let less = lower_still by.receiver.1 (unalias by.own.receiver) g2 rule.receiver ((below_iff (unalias by.own.receiver) g2).1 c.found.stands.receiver) in
-      begins_here fails by rule.kind c
+      begins_here by rule.kind c
       (pass_near core ann settle around.objects around.actors i h level level s.here same_level w s.world is_top (length c.under) (InSlot i (suc h) 0 level) by.receiver.1 g2 c.this less (stands by c).receiver
       (near_home w (OnStack i h (length c.under) level) by.receiver.1 g2 (InSlot i (suc h) 0 level) refl) (refl, subst (λ (z : ℕ). level ≤ z) (sym is_top) same_level))
       (subst (GoesTo core c.found.own.result) (sym rule.ty) (below_result by c))
 
   -- ---- a receiver that is lent
 
-  module _ (fails : Fails) (lends : LentLaw) (rule : LendRule core ann g.node name g.note) (c : Calls rule.by) where
+  module _ (lends : LentLaw) (rule : LendRule core ann g.node name g.note) (c : Calls rule.by) where
     comes_out : GoesTo core c.found.own.result g.note.ty × SendableSome g.note.ty
     comes_out = lent_goes core c.found.own.result rule.by.own.result (below_result rule.by c) g.note.ty rule.ty
 
@@ -347,7 +335,7 @@ module _ (settle : SettleLaw) (core : CoreData) (ann : Ann) (needs : Needs core 
         in
         let go = λ (d : ℕ) (l : Mask) (es : List Entry). TasksRise core ann f.method f.tasks d l es in
         let left = left_lent core ann around f fs (task.Invoke n ∷ f.tasks) w s invokes n go g m in
-        begins_at fails by rule.kind c u (suc level) x.world (fields_low core ann around f fs (task.Invoke n ∷ f.tasks) w s invokes n go g u m gone left x)
+        begins_at by rule.kind c u (suc level) x.world (fields_low core ann around f fs (task.Invoke n ∷ f.tasks) w s invokes n go g u m gone left x)
         (others_low core ann around f fs (task.Invoke n ∷ f.tasks) w s invokes n go g u m gone left x)
         (rests_low core ann around f fs (task.Invoke n ∷ f.tasks) w s invokes n go g u m gone left x open_still c.popped.rest (omega arith) below_shallow st.fits)
         (all.calm.top i ∙ top) (all.calm.shifts.fits (InSlot i (suc h) 0 (suc level)) g2 c.this refl this_fits) all.fit
@@ -356,7 +344,7 @@ module _ (settle : SettleLaw) (core : CoreData) (ann : Ann) (needs : Needs core 
 
     lend_plain : is_at c.this ≡ false → RegionMoveOk core ann w around fs (invoke_task core around f g.node.children (nodes.Call name))
     lend_plain plain =
-        begins_here fails rule.by rule.kind c
+        begins_here rule.by rule.kind c
         (record {
           world = w;
           calm = calm_same w around.objects around.actors around.actor (the_place around.actor (length fs) (length c.under)) s.world;
@@ -371,5 +359,5 @@ module _ (settle : SettleLaw) (core : CoreData) (ann : Ann) (needs : Needs core 
     by_value (Text t) is = lend_plain (ap is_at is)
     by_value (Prim k) is = lend_plain (ap is_at is)
 
-  pub lend_ok : Fails → LentLaw → LendRule core ann g.node name g.note → RegionMoveOk core ann w around fs (invoke_task core around f g.node.children (nodes.Call name))
-  lend_ok fails lends rule = let c = calls rule.by in by_value fails lends rule c c.this refl
+  pub lend_ok : LentLaw → LendRule core ann g.node name g.note → RegionMoveOk core ann w around fs (invoke_task core around f g.node.children (nodes.Call name))
+  lend_ok lends rule = let c = calls rule.by in by_value lends rule c c.this refl

@@ -18,7 +18,7 @@ use Rattle.pc_rules.specs.Parts.{through, type_of}
 use Rattle.pc_valid.specs.Words.{Ty, Masks, before}
 use Rattle.pc_rules.proofs.ByNumber.{arguments}
 use Rattle.pc_types.proofs.{Types.{OfKind, OfType, OfSome, Want, StackOk}, Tasks.{want_of, stacked, FinishOk, invokes, TasksOk}, Moves.Runs, Needs.Needs, Notes.meets, Values.{top_is, is_number, is_truth, is_address, own_no_trait}, InverseCalls.{SendRule, TextRule}, Popped.popped_is, Callers.{counts, actor_of_be}, InvokeTask.{invokes_is, actor_place, no_method, none_typed, text_typed}}
-use Rattle.pc_regions.proofs.{World.{InMail, OnStack, World, Fits, FitsSome, Alias, AliasSome}, StackForms.{Entry, FinishRises, TasksRise, piled}, Fitting.StackFits, MoveFits.{Turned, Situated, RegionMoveOk}, Settled.SettleLaw, Climbed.ClimbLaw, ContextLaws.LentLaw, Schedules.KeepsRegions, CallForms.call_forms, Arguments.stands_below, FirstFrame.message_fits, Calm.calm_same, ArgumentsSettle.{sent_form, from_place, pass_all}, CallerKept.{live_left, follows_at, others_on, pushes_on}, Rising.{Pushes, rise, others_sent}, MessageSent.{mailed, fits_on, others_mailed, pushes_mailed}, FunctionCall.{Fails, here, Calls, calls, stands, call_ok, lend_ok}}
+use Rattle.pc_regions.proofs.{World.{InMail, OnStack, World, Fits, FitsSome, Alias, AliasSome}, StackForms.{Entry, FinishRises, TasksRise, piled}, Fitting.StackFits, MoveFits.{Turned, Situated, RegionMoveOk}, Settled.SettleLaw, Climbed.ClimbLaw, ContextLaws.LentLaw, Schedules.KeepsRegions, CallForms.call_forms, Arguments.stands_below, FirstFrame.message_fits, Calm.calm_same, ArgumentsSettle.{sent_form, from_place, pass_all}, CallerKept.{live_left, follows_at, others_on, pushes_on}, Rising.{Pushes, rise, others_sent}, MessageSent.{mailed, fits_on, others_mailed, pushes_mailed}, FunctionCall.{here, Calls, calls, stands, call_ok, lend_ok}}
 
 module _ (settle : SettleLaw) (core : CoreData) (climb : ClimbLaw core) (ann : Ann) (needs : Needs core ann) (around : Around) (f : Frame) (fs : List Frame) (r : Runs core ann around f fs) (n : ℕ)
     (e : FinishOk core ann f.method r.held.live r.held.set r.held.wants invokes n (λ l s g. TasksOk core ann f.method f.tasks l s g)) (w : World) (s : Situated core ann w around f (task.Invoke n ∷ f.tasks) fs)
@@ -112,18 +112,18 @@ module _ (settle : SettleLaw) (core : CoreData) (climb : ClimbLaw core) (ann : A
             rw (rule.children, top.is, v.1, no_method core 2 name _ needs.formed.built_in.truths refl (method_named core 2 name) refl, rule.named) (pushes (truth_text v.0))
       ]
 
-  invoke_ok : Fails settle core ann needs around f fs r n e w s g name is_call → LentLaw → RegionMoveOk core ann w around fs (invoke_task core around f g.node.children (nodes.Call name))
-  invoke_ok fails lends =
+  invoke_ok : LentLaw → RegionMoveOk core ann w around fs (invoke_task core around f g.node.children (nodes.Call name))
+  invoke_ok lends =
       elim (call_forms core ann g.node name g.note (meets core ann needs n g.node g.note g.is_node g.is_note) is_call) [
-        | inl rule ↦ call_ok settle core ann needs around f fs r n e w s g name is_call fails rule
+        | inl rule ↦ call_ok settle core ann needs around f fs r n e w s g name is_call rule
         | inr more ↦ elim more [
-          | inl rule ↦ lend_ok settle core ann needs around f fs r n e w s g name is_call fails lends rule
+          | inl rule ↦ lend_ok settle core ann needs around f fs r n e w s g name is_call lends rule
           | inr last ↦ elim last [ inl rule ↦ send_ok rule | inr rule ↦ text_ok rule ]
         ]
       ]
 
 pub regions_invoke : SettleLaw → LentLaw → ((core : CoreData) (ann : Ann) → Needs core ann → ClimbLaw core) → (n : ℕ) → KeepsRegions (task.Invoke n)
 regions_invoke settle lends climb n core ann needs around f fs r e w s =
-    let g = s.tasks.call in
+    let g = s.tasks in
     let k = invokes_is g.node.kind g.kind in
-    rw (g.is_node, k.1) (invoke_ok settle core (climb core ann needs) ann needs around f fs r n e.call w s g k.0 k.1 s.tasks.fails lends)
+    rw (g.is_node, k.1) (invoke_ok settle core (climb core ann needs) ann needs around f fs r n e w s g k.0 k.1 lends)

@@ -20,9 +20,7 @@ pub mod StartFits
 mod StandsOtherwise
 mod Shifts
 mod Rising
-mod ExitForms
 mod ChildForms
-mod ReturnForms
 mod ControlKeeps
 mod SlotSeen
 mod ValueKeeps
@@ -58,10 +56,6 @@ mod ContextComes
 mod ContextGoes
 pub mod TakesMessage
 mod ReturnKeeps
-mod Leaving
-mod LoopForms
-mod LeaveKeeps
-mod ReturnOut
 mod SlotTaken
 mod SlotDepth
 mod SlotStored

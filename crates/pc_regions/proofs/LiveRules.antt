@@ -11,8 +11,8 @@ use Rattle.pc_base.proofs.Options.{bind_some, kept, kept_otherwise}
 use Rattle.pc_masks.specs.{declared.mask.Mask.Mask, Masks.{IsInMask, with_number, without_number, meet}, MaskLaws.{meet_bits, with_number_bits, without_number_bits}}
 use Rattle.pc_ann.specs.{declared.annotation.Note.Note, declared.annotation.Ann.Ann, declared.annotation.Rule.Rule}
 use Rattle.pc_ann.specs.declared.annotation.Rule.TheVariants as rule
-use Rattle.pc_rules.specs.{declared.said.Said.Said, Parts.{says_of, through, type_of, one_child}, Values.{defines, old_value, assigns}, Fields.{own_field, field_type, old_type}, Control.recovered, Rules.said_by}
-use Rattle.pc_valid.specs.{Words.{Ty, Masks, before, masks_after, Defines}, Exits.{without_definition, without_item, without_items}}
+use Rattle.pc_rules.specs.{declared.said.Said.Said, Parts.{says_of, through, type_of, one_child}, Values.{defines, old_value, assigns}, Fields.{own_field, field_type, old_type}, Control.{without_definition, without_item, without_items, recovered}, Rules.said_by}
+use Rattle.pc_valid.specs.Words.{Ty, Masks, before, masks_after, Defines}
 use Rattle.pc_rules.proofs.ByNumber.{two_types, slot_of, used, this_says, local_says, consume_says, defined, define_says, assigned, assign_says, incomplete, read_says, own_read_says, write_says, value_type, own_write_says, called, builtin_says, value_says, not_says, identity_says, recover_says, body_says, says, IsSaid, own_seen}
 use Rattle.pc_types.proofs.{Tasks.Within, EvalChildren.{first_of_them, items_less}, Inverse.{LazyRule, IfRule, WhileRule, SeqRule, and_rule, or_rule, if_rule, while_rule, seq_rule}}
 

@@ -1,28 +1,24 @@
 -- The task Make, by regions: the arguments settle in the slots of the constructor's frame, and then the object is put
 -- into the region in which that frame begins. If the object comes out alone, that is a new context.
-use Rattle.std.specs.{Prelude.{◌≡◌, ℕ, suc, ◌+◌, ◌≤◌, Bool, true, false, ◌||◌, List, ◌∷◌, length, Option, Some, None, refl}, FinMap.get}
+use Rattle.std.specs.{Prelude.{◌≡◌, ℕ, suc, ◌+◌, ◌≤◌, Bool, true, false, ◌||◌, List, ◌∷◌, length, None, refl}, FinMap.get}
 use Rattle.std.proofs.Common.{inl, inr, ap, sym, subst, ◌∙◌, arith}
 use Rattle.pc_heap.specs.{Objects.next_address, declared.value.Address.Address, declared.value.Value.Value, declared.value.Value.TheVariants.At}
 use Rattle.pc_caps.specs.{Tables.{unalias, sendable}, declared.capability.Cap.Cap}
 use Rattle.pc_core.specs.{declared.declarations.Method.Method, declared.declarations.MethodKind.MethodKind, CoreData.CoreData}
 use Rattle.pc_core.specs.declared.declarations.MethodKind.TheVariants as method
-use Rattle.pc_core.specs.declared.kinds.Exit.TheVariants as exit
 use Rattle.pc_core.specs.declared.nodes.NodeKind.TheVariants as nodes
 use Rattle.pc_base.specs.Lists.{Each}
 use Rattle.pc_masks.specs.declared.mask.Mask.{Mask}
-use Rattle.pc_ann.specs.{declared.annotation.Note.Note, declared.annotation.Ann.Ann}
-use Rattle.pc_rules.specs.Parts.{notes_of}
-use Rattle.pc_valid.specs.Exits.{may_fail}
+use Rattle.pc_ann.specs.declared.annotation.Ann.{Ann}
 use Rattle.pc_semantics.specs.{declared.frames.Frame.Frame, Configurations.{blank_object, Around}, Calls.make_task}
 use Rattle.pc_semantics.specs.declared.frames.Task.TheVariants as task
 use Rattle.pc_sub.specs.Declarations.{isolates, takes_sendable}
-use Rattle.pc_types.proofs.{Tasks.{FinishOk, makes, TasksOk}, Moves.Runs, Needs.Needs, Notes.left_at, Made.next_free, Popped.popped_is, MakeTask.{may_fail_of, makes_is, Making, making, make_move}}
-use Rattle.pc_regions.proofs.{World.{Unused, Opened, Place, InSlot, OnStack, World, Fits, WorldOk}, StackForms.{Entry, Shallow, FinishRises, tasks_rise, TasksRise}, Fitting.{Entered, OpenedTo, GoesTo, FieldsFit}, MoveFits.{Others, Situated, RegionMoveOk}, Changes.{with_open, Shifts}, Settled.SettleLaw, ContextLaws.{higher, OpenLaw}, Schedules.KeepsRegions, Shifts.{shifts_both, lower_shift}, ControlKeeps.below_same, FirstFrame.ArgumentsAt, SameRegions.{context_here, number_here}, StandsOtherwise.stand_here, ArgumentsSettle.{from_place, pass_all}, CallerKept.{children_on, Rests, live_left, follows_at, fields_on, others_on, rests_on, fields_low, others_low, rests_low}, CallBegins.{finish_at, enters_frames}, FunctionCall.{piled_shallow, not_higher, stand_kept, left_lent}, Rising.others_both, NewAddress.region_here, GrownFits.{others_grown, fields_grown, rests_grown, arguments_grown}, NewObject.{placed, place_grows, place_world}, Arguments.{ChildrenStand, same_params}}
+use Rattle.pc_types.proofs.{Tasks.{FinishOk, makes, TasksOk}, Moves.Runs, Needs.Needs, Made.next_free, Popped.popped_is, MakeTask.{makes_is, Making, making, make_move}}
+use Rattle.pc_regions.proofs.{World.{Unused, Opened, Place, InSlot, OnStack, World, Fits, WorldOk}, StackForms.{Entry, Shallow, FinishRises, TasksRise}, Fitting.{Entered, OpenedTo, GoesTo, FieldsFit}, MoveFits.{Others, Situated, RegionMoveOk}, Changes.{with_open, Shifts}, Settled.SettleLaw, ContextLaws.{higher, OpenLaw}, Schedules.KeepsRegions, Shifts.{shifts_both, lower_shift}, ControlKeeps.below_same, FirstFrame.ArgumentsAt, SameRegions.{context_here, number_here}, StandsOtherwise.stand_here, ArgumentsSettle.{from_place, pass_all}, CallerKept.{children_on, Rests, live_left, follows_at, fields_on, others_on, rests_on, fields_low, others_low, rests_low}, CallBegins.{finish_at, enters_frames}, FunctionCall.{piled_shallow, not_higher, stand_kept, left_lent}, Rising.others_both, NewAddress.region_here, GrownFits.{others_grown, fields_grown, rests_grown, arguments_grown}, NewObject.{placed, place_grows, place_world}, Arguments.{ChildrenStand, same_params}}
 
 module _ (settle : SettleLaw) (core : CoreData) (ann : Ann) (needs : Needs core ann) (around : Around) (f : Frame) (fs : List Frame) (r : Runs core ann around f fs) (n : ℕ)
     (e : FinishOk core ann f.method r.held.live r.held.set r.held.wants makes n (λ l s g. TasksOk core ann f.method f.tasks l s g)) (w : World) (s : Situated core ann w around f (task.Make n ∷ f.tasks) fs)
-    (g : FinishRises core ann f.method s.active.depth s.active.holds.live s.active.holds.entries makes n (λ d l st. TasksRise core ann f.method f.tasks d l st)) (k : ℕ) (is_new : g.node.kind ≡ nodes.New k)
-    (fails : (ns : List Note) → notes_of ann.notes g.node.children ≡ Some ns → may_fail core ns g.node.kind ≡ true → (tasks_rise core ann f.method f.tasks).out exit.Error s.active.depth g.note.live_after g.below) where
+    (g : FinishRises core ann f.method s.active.depth s.active.holds.live s.active.holds.entries makes n (λ d l st. TasksRise core ann f.method f.tasks d l st)) (k : ℕ) (is_new : g.node.kind ≡ nodes.New k) where
   abbrev i : ℕ
   i = around.actor
 
@@ -106,8 +102,7 @@ module _ (settle : SettleLaw) (core : CoreData) (ann : Ann) (needs : Needs core 
               k own has.rule.is_own has.other has.body has.has_body (At a) values top this_fits
               (arguments_grown u v around.objects around.actors x (λ j. InSlot i (suc h) (suc j) b) own.params values (λ j. s.here) fit)
               (subst (λ (j : MethodKind). Entered v i own g.note.ty base level b j) (sym has.new) entered)
-              (subst (GoesTo core own.result) (sym has.rule.ty_is) (below_same core own.result))
-              (λ partial. let l = left_at core ann needs n g.node g.note g.is_node g.is_note in fails l.notes l.are_notes (may_fail_of core ann needs around f fs r n here k is_new l.notes own has.rule.is_own partial));
+              (subst (GoesTo core own.result) (sym has.rule.ty_is) (below_same core own.result));
         },
       )
 
@@ -176,7 +171,5 @@ module _ (settle : SettleLaw) (core : CoreData) (ann : Ann) (needs : Needs core 
 pub regions_make : SettleLaw → OpenLaw → (n : ℕ) → KeepsRegions (task.Make n)
 regions_make settle opens n core ann needs around f fs r e w s =
     let g = s.tasks in
-    let z = g.call in
-    let k = makes_is z.node.kind z.kind in
-    rw (z.is_node, k.1) (new_in settle core ann needs around f fs r n e.call w s z k.0 k.1
-    g.fails opens)
+    let k = makes_is g.node.kind g.kind in
+    rw (g.is_node, k.1) (new_in settle core ann needs around f fs r n e w s g k.0 k.1 opens)

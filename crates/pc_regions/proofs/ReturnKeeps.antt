@@ -9,12 +9,12 @@ use Rattle.pc_caps.specs.declared.capability.Form.TheVariants as form
 use Rattle.pc_core.specs.{declared.declarations.Method.Method, declared.declarations.MethodKind.MethodKind, Methods.ResultFits, CoreData.CoreData}
 use Rattle.pc_core.specs.declared.declarations.MethodKind.TheVariants as method
 use Rattle.pc_ann.specs.declared.annotation.Ann.{Ann}
-use Rattle.pc_semantics.specs.{declared.frames.Frame.Frame, declared.frames.Task.Task, Calls.{leave, leave_task}, Configurations.Around, Step.left}
+use Rattle.pc_semantics.specs.{declared.frames.Frame.Frame, declared.frames.Task.Task, Calls.leave, Configurations.Around, Step.left}
 use Rattle.pc_semantics.specs.declared.frames.Task.TheVariants as task
 use Rattle.pc_valid.specs.Words.{Ty}
 use Rattle.pc_base.proofs.Bools.{false_true}
 use Rattle.pc_types.proofs.{Types.{OfType, OfSome, StackOk}, Tasks.ReturnOk, Frames.leaves, Moves.Runs, Needs.Needs, Basic.{of_lower, some_lower}, Values.top_is, Tables.below_sees, ReturnTask.built_typed}
-use Rattle.pc_regions.proofs.{World.{Place, InSlot, OnStack, InField, InMail, Opened, Held, Child, World, Fits, FitsSome, AliasIn, Alias, AliasSome, Over, WorldOk}, StackForms.{Entry, top_of}, Fitting.{StackFits, TopAlias, Entered, GoesTo, SendableSome, Awaits, WaitFits, FramesFit, FieldsFit}, MoveFits.{elsewhere, Turned, RegionMoveOk, Situated}, Changes.{standing, lowered, without_last, Shifts}, ContextLaws.{higher, ended, Ends}, Climbed.ClimbLaw, ReturnForms.no_lift, ContextGoes.{ends, falls}, SameRegions.{number_here, role_here}, StandsOtherwise.{stand_here, held_used}, Closing.closed_shifts, ArgumentsSettle.{lower_still, near_home, near_sent}, Shifts.{others_kept, fields_kept, shifts_none, shifts_less, shifts_then, lower_shift}, Settling.settle, Rising.{Pushes, rise, others_both, not_here}, Waiting.{top_down, this_low, slots_low, stack_low, wait_low}}
+use Rattle.pc_regions.proofs.{World.{Place, InSlot, OnStack, InField, InMail, Opened, Held, Child, World, Fits, FitsSome, AliasIn, Alias, AliasSome, Over, WorldOk}, StackForms.{Entry, top_of}, Fitting.{StackFits, TopAlias, Entered, GoesTo, SendableSome, Awaits, WaitFits, FramesFit, FieldsFit}, MoveFits.{elsewhere, Turned, RegionMoveOk, Situated}, Changes.{standing, lowered, without_last, Shifts}, ContextLaws.{higher, ended, Ends}, Climbed.ClimbLaw, Schedules.KeepsRegions, ContextGoes.{ends, falls}, SameRegions.{number_here, role_here}, StandsOtherwise.{stand_here, held_used}, Closing.closed_shifts, ArgumentsSettle.{lower_still, near_home, near_sent}, Shifts.{others_kept, fields_kept, shifts_none, shifts_less, shifts_then, lower_shift}, Settling.settle, Rising.{Pushes, rise, others_both, not_here}, Waiting.{top_down, this_low, slots_low, stack_low, wait_low}}
 
 -- ---- what a frame leaves that ends
 
@@ -371,7 +371,7 @@ module _
     (climbs : (core : CoreData) (ann : Ann) → Needs core ann → ClimbLaw core) (core : CoreData) (ann : Ann) (needs : Needs core ann) (around : Around) (f : Frame) (w : World)
   where
     -- A frame waits.
-    module _ (g : Frame) (gs : List Frame) (r : Runs core ann around f (g ∷ gs)) (e : ReturnOk core f.method r.held.set r.held.wants) (s : Situated core ann w around f (task.Return ∷ f.tasks) (g ∷ gs)) (outer : s.active.depth ≡ 0) where
+    module _ (g : Frame) (gs : List Frame) (r : Runs core ann around f (g ∷ gs)) (e : ReturnOk core f.method r.held.set r.held.wants) (s : Situated core ann w around f (task.Return ∷ f.tasks) (g ∷ gs)) where
       abbrev x : Method
       x = s.wait.0
 
@@ -379,7 +379,7 @@ module _
       is_x = same_Some e.own x (sym e.is_own ∙ s.wait.1)
 
       base_top : w.top around.actor ≡ s.active.holds.base
-      base_top = let a = s.active.last in omega (arith, a, outer)
+      base_top = let a = s.active.last in let b = s.tasks.outer in omega (arith, a, b)
 
       -- A function.
       fun_back : (k : MethodKind) → x.kind ≡ k → k ≡ method.Fun → (v : Value) (n : ℕ) (t : Ty) → is_below t.1 x.result.1 ≡ true → OfType core around.objects x.result v
@@ -418,14 +418,14 @@ module _
           let same : s.tasks.own ≡ x = same_Some s.tasks.own x (sym s.tasks.is_own ∙ s.wait.1) in
           let kind : x.kind ≡ method.Fun = ap (λ (z : Method). z.kind) (sym is_x) ∙ is in
           let res = s.tasks.result (ap (λ (z : Method). z.kind) same ∙ kind) in
-          let es : List Entry = record { ty = Some (s.tasks.own.result.0, res.0); depth = s.active.depth } ∷ res.1 in
+          let es : List Entry = record { ty = Some res.0; depth = 0 } ∷ res.1 in
           let stack : StackFits w around.actor (suc (length gs)) s.active.holds.base es (top.top ∷ top.below) =
           subst (StackFits w around.actor (suc (length gs)) s.active.holds.base es) top.is (subst (λ (q : List Entry). StackFits w around.actor (suc (length gs)) s.active.holds.base q f.stack) res.2 s.active.holds.stack_fit) in
           let alias : TopAlias w around.actor s.active.holds.base es (top.top ∷ top.below) =
           subst (TopAlias w around.actor s.active.holds.base es) top.is (subst (λ (q : List Entry). TopAlias w around.actor s.active.holds.base q f.stack) res.2 (s.fresh refl)) in
-          let below : is_below res.0 x.result.1 ≡ true = subst (λ (z : Method). is_below res.0 z.result.1 ≡ true) same (ap (λ (h : Form). is_below h s.tasks.own.result.1) (sym (no_lift s.active.depth res.0 outer)) ∙ res.4) in
-          rw top.is (fun_back x.kind refl kind top.top (length top.below) (s.tasks.own.result.0, res.0) below typed
-          (subst (λ (l : ℕ). Fits w (OnStack around.actor (suc (length gs)) (length top.below) l) res.0 top.top) (ap (λ (d : ℕ). s.active.holds.base + d) outer ∙ base_zero s.active.holds.base) stack.0) alias s.wait.2.entered)
+          let below : is_below res.0.1 x.result.1 ≡ true = subst (λ (z : Method). is_below res.0.1 z.result.1 ≡ true) same res.3.1 in
+          rw top.is (fun_back x.kind refl kind top.top (length top.below) res.0 below typed
+          (subst (λ (l : ℕ). Fits w (OnStack around.actor (suc (length gs)) (length top.below) l) res.0.1 top.top) (base_zero s.active.holds.base) stack.0) alias s.wait.2.entered)
       leave_in method.New is =
           let fits : ResultFits method.New e.own = subst (λ (k : MethodKind). ResultFits k e.own) is (needs.formed.methods f.method e.own e.is_own).result_fits in
           let typed : OfType core around.objects e.own.result r.held.this = built_typed core ann needs around f (g ∷ gs) r e is in
@@ -438,18 +438,17 @@ module _
       leave_in method.Spawn is = absurd (never method.Spawn is refl)
 
     -- None waits.
-    module _ (r : Runs core ann around f []) (e : ReturnOk core f.method r.held.set r.held.wants) (s : Situated core ann w around f (task.Return ∷ f.tasks) []) (outer : s.active.depth ≡ 0) where
+    module _ (r : Runs core ann around f []) (e : ReturnOk core f.method r.held.set r.held.wants) (s : Situated core ann w around f (task.Return ∷ f.tasks) []) where
       last_in : (k : MethodKind) → e.own.kind ≡ k → RegionMoveOk core ann w around [] (leave f k)
       last_in method.Fun is =
           let v = e.result is in
           let top = top_is core around.objects r.held.this v.0 v.1 f.stack (subst (λ q. StackOk core around.objects r.held.this q f.stack) v.2 r.held.stack_ok) in
-          rw top.is (nothing_waits core ann around f (task.Return ∷ f.tasks) w s (Some top.top) outer)
-      last_in method.New is = rw r.held.is_this (nothing_waits core ann around f (task.Return ∷ f.tasks) w s (Some r.held.this) outer)
-      last_in method.Be is = nothing_waits core ann around f (task.Return ∷ f.tasks) w s None outer
-      last_in method.Spawn is = nothing_waits core ann around f (task.Return ∷ f.tasks) w s None outer
+          rw top.is (nothing_waits core ann around f (task.Return ∷ f.tasks) w s (Some top.top) s.tasks.outer)
+      last_in method.New is = rw r.held.is_this (nothing_waits core ann around f (task.Return ∷ f.tasks) w s (Some r.held.this) s.tasks.outer)
+      last_in method.Be is = nothing_waits core ann around f (task.Return ∷ f.tasks) w s None s.tasks.outer
+      last_in method.Spawn is = nothing_waits core ann around f (task.Return ∷ f.tasks) w s None s.tasks.outer
 
--- At depth 0.
-module _ (climbs : (core : CoreData) (ann : Ann) → Needs core ann → ClimbLaw core) (core : CoreData) (ann : Ann) (needs : Needs core ann) (around : Around) (f : Frame) where
-  pub leaves_root : (fs : List Frame) (r : Runs core ann around f fs) (e : ReturnOk core f.method r.held.set r.held.wants) (w : World) (s : Situated core ann w around f (task.Return ∷ f.tasks) fs) → s.active.depth ≡ 0 → RegionMoveOk core ann w around fs (leave_task core f)
-  leaves_root [] r e w s outer = rw e.is_own (last_in climbs core ann needs around f w r e s outer e.own.kind refl)
-  leaves_root (g ∷ gs) r e w s outer = rw e.is_own (leave_in climbs core ann needs around f w g gs r e s outer e.own.kind refl)
+module _ (climbs : (core : CoreData) (ann : Ann) → Needs core ann → ClimbLaw core) where
+  pub return_regions : KeepsRegions task.Return
+  return_regions core ann needs around f [] r e w s = rw e.is_own (last_in climbs core ann needs around f w r e s e.own.kind refl)
+  return_regions core ann needs around f (g ∷ gs) r e w s = rw e.is_own (leave_in climbs core ann needs around f w g gs r e s e.own.kind refl)

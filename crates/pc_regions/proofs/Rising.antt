@@ -69,7 +69,7 @@ module _ (core : CoreData) (ann : Ann) (climb : ClimbLaw core) (objects : Object
         (some_kept (length vs) (base + e.depth) e.ty v (omega (arith, few)) (omega (arith, deep)) k.0, stack_on es vs (omega (arith, few)) flat.1 k.1)
 
 -- What was in a world, and then in one that came of it: what both send is what the two do.
-pub others_then : (w v u : World) (i count : ℕ) (first second both : Option ℕ) → ((j : ℕ) → one_more both j ≡ one_more second j + one_more first j) → Others w v i count first → Others v u i count second → Others w u i count both
+others_then : (w v u : World) (i count : ℕ) (first second both : Option ℕ) → ((j : ℕ) → one_more both j ≡ one_more second j + one_more first j) → Others w v i count first → Others v u i count second → Others w u i count both
 others_then w v u i count first second both adds x y = record {
   fits = λ p f z e a k. y.fits p f z e a (x.fits p f z e a k);
   sent = λ j there. in_all (u.sent j) (v.sent j) (w.sent j) (one_more second j) (one_more first j) (one_more both j) (y.sent j there) (x.sent j there) (adds j);
@@ -111,11 +111,11 @@ pub record Pushes (core : CoreData) (ann : Ann) (w : World) (objects : ObjectMap
   pub wait : WaitFits core ann w i base m fs
 
 module _ (core : CoreData) (ann : Ann) (climb : ClimbLaw core) (objects : ObjectMap) (count i m base d : ℕ) (live : Mask) (below : List Entry) (slots : List (Option Value)) (vs : List Value) (fs : List Frame) (w : World) (p : Pushes core ann w objects count i m base d live below slots vs fs) where
-  -- A value that is at the node's entry goes up, and the frame goes on at the depth to which it came.
-  pub rise_to : (after : Mask) (t : Option Ty) (v : Value) (ts : List Task) → Within after live → OfSome core objects t v → FitsSome w (OnStack i (length fs) (length vs) (base + d)) t v → AliasSome w i base (base + d) t v
-      → (o : Rises core m after (record { ty = t; depth = d }) below (λ c l g. TasksRise core ann m ts c l g))
-      → (w' : World) × (z : Turned core ann w w' i count None objects count (record { method = m; slots = slots; stack = v ∷ vs; tasks = ts } ∷ fs)) × (z.frames.0.depth ≡ (top_of o.way (record { ty = t; depth = d })).depth)
-  rise_to after t v ts less typed fits alias o =
+  -- A value that is at the node's entry goes up, and the frame goes on.
+  pub rise : (after : Mask) (t : Option Ty) (v : Value) (ts : List Task) → Within after live → OfSome core objects t v → FitsSome w (OnStack i (length fs) (length vs) (base + d)) t v → AliasSome w i base (base + d) t v
+      → Rises core m after (record { ty = t; depth = d }) below (λ c l g. TasksRise core ann m ts c l g)
+      → (w' : World) × Turned core ann w w' i count None objects count (record { method = m; slots = slots; stack = v ∷ vs; tasks = ts } ∷ fs)
+  rise after t v ts less typed fits alias o =
       let up = climb w objects count i (length fs) (length vs) base o.way (record { ty = t; depth = d }) v o.climbs (record { world = p.world; here = p.here; top = p.top; opened = p.opened; typed = typed; fits = fits; alias = alias }) in
       let w' : World = up.0 in
       let goal : Entry = top_of o.way (record { ty = t; depth = d }) in
@@ -147,13 +147,7 @@ module _ (core : CoreData) (ann : Ann) (climb : ClimbLaw core) (objects : Object
             below_kept w w' objects count i base gone x core ann (length fs) (λ h s l low. lower_frame (nat_eq i i) (length fs) h (nat_lt (base + goal.depth) l) low) (λ h c l low. lower_frame (nat_eq i i) (length fs) h (nat_eq (length vs) c || nat_lt (base + goal.depth) l) low) base m fs refl (omega arith) p.wait,
           );
         },
-        refl,
       )
-
-  pub rise : (after : Mask) (t : Option Ty) (v : Value) (ts : List Task) → Within after live → OfSome core objects t v → FitsSome w (OnStack i (length fs) (length vs) (base + d)) t v → AliasSome w i base (base + d) t v
-      → Rises core m after (record { ty = t; depth = d }) below (λ c l g. TasksRise core ann m ts c l g)
-      → (w' : World) × Turned core ann w w' i count None objects count (record { method = m; slots = slots; stack = v ∷ vs; tasks = ts } ∷ fs)
-  rise after t v ts less typed fits alias o = let z = rise_to after t v ts less typed fits alias o in (z.0, z.1)
 
 -- ---- the world stays
 

@@ -3,19 +3,19 @@ use Rattle.std.specs.Prelude.{◌≡◌, ◌⊎◌, ℕ, suc, ◌+◌, ◌<◌, 
 use Rattle.std.proofs.{Common.{inl, inr, ap, sym, subst, ◌∙◌, arith}, lemmas.Bool.{and_parts, or_from}, lemmas.Option.{same_Some, none-some}}
 use Rattle.pc_heap.specs.declared.value.Value.{Value}
 use Rattle.pc_caps.specs.{Computed.{is_below, fits}, Tables.{unalias, sendable}, declared.capability.Cap.Cap, declared.capability.Form.Form}
-use Rattle.pc_core.specs.{declared.nodes.Slot.Slot, declared.nodes.Node.Node, CoreData.CoreData, Nodes.NamesSlot, declared.nodes.NodeKind.NodeKind}
+use Rattle.pc_core.specs.{declared.nodes.Slot.Slot, CoreData.CoreData, Nodes.NamesSlot, declared.nodes.NodeKind.NodeKind}
 use Rattle.pc_masks.specs.{declared.mask.Mask.Mask, Masks.{IsInMask, with_number}, MaskLaws.with_number_bits}
-use Rattle.pc_ann.specs.{declared.annotation.Note.Note, declared.annotation.Ann.Ann, declared.annotation.Rule.Rule}
+use Rattle.pc_ann.specs.{declared.annotation.Ann.Ann, declared.annotation.Rule.Rule}
 use Rattle.pc_semantics.specs.{declared.frames.Frame.Frame, Configurations.{Around, with_stack}, Parts.{value_or_none, with_top, held}, Calls.{store, store_task}}
 use Rattle.pc_semantics.specs.declared.frames.Task.TheVariants as task
 use Rattle.pc_sub.specs.Computed.{is_sub}
 use Rattle.pc_rules.specs.{Parts.type_of, Rules.said_by}
-use Rattle.pc_valid.specs.{Words.{Ty, Masks, before}, Exits.own_ends}
+use Rattle.pc_valid.specs.Words.{Ty, Masks, before}
 use Rattle.pc_core.specs.declared.nodes.NodeKind.TheVariants as nodes
 use Rattle.pc_ann.specs.declared.annotation.Rule.TheVariants as rule
 use Rattle.pc_rules.proofs.{ByNumber.{slot_of, says}, OneRule.define_rule}
 use Rattle.pc_base.proofs.Bools.{false_true}
-use Rattle.pc_types.proofs.{Types.OfSome, Tasks.{FinishOk, stores, TasksOk}, Moves.Runs, Needs.Needs, Needed.not_first, Finish.{one_top, rule_is}, StoreTask.{StoreRule, old_ok, room, define_is, assign_is}, Notes.{names_fit, left_at}}
+use Rattle.pc_types.proofs.{Types.OfSome, Tasks.{FinishOk, stores, TasksOk}, Moves.Runs, Needs.Needs, Needed.not_first, Finish.{one_top, rule_is}, StoreTask.{StoreRule, old_ok, room, define_is, assign_is}, Notes.names_fit}
 use Rattle.pc_regions.proofs.{World.{Place, InSlot, OnStack, InField, InMail, World, Fits, FitsSome, AliasSome, WorldOk}, StackForms.{Entry, FinishRises, TasksRise, piled, LiveShallow}, Fitting.StackFits, MoveFits.{Situated, RegionMoveOk}, Changes.Shifts, Settled.{Near, SettleLaw}, Climbed.ClimbLaw, ArgumentsSettle.{near_home, near_sent, sent_form, the_place, one_later, other_place, PassedOne, pass_near}, ValueKeeps.{no_alias, one_slot}, Shifts.{shifts_both, lower_shift, wider}, SlotTaken.slot_taken, SlotStored.{stored_gone, stored_goes}, ControlKeeps.same_below, FieldPut.other_depth, Taken.TakeLaw, CallBegins.finish_at, Schedules.KeepsRegions, Waiting.slot_depth, SlotDepth.{define_depth, assign_near}}
 
 -- From the stack to the slot: the place lives with the same region, or the form may be sent.
@@ -126,15 +126,6 @@ module _ (settle : SettleLaw) (take : TakeLaw) (core : CoreData) (climb : ClimbL
       (subst (λ (c : Value). FitsSome u (OnStack i h m lv) g.note.ty c) (sym is) (subst (λ (o : Option Ty). FitsSome u (OnStack i h m lv) o old) (sym ty) two.fits))
       (subst (λ (c : Value). AliasSome u i base lv g.note.ty c) (sym is) (subst (λ (o : Option Ty). AliasSome u i base lv o old) (sym ty) (no_alias u i base lv y.1.1 old)))
 
--- A definition or an assignment ends.
-stores_end : (k : NodeKind) (ns : List Note) → stores k ≡ true → own_ends k ns ≡ true
-stores_end (nodes.Define z) ns h = refl
-stores_end (nodes.Assign z) ns h = refl
-stores_end k ns h = absurd (false_true h)
-
-stored_ends : (core : CoreData) (ann : Ann) → Needs core ann → (n : ℕ) (x : Node) (t : Note) → slice_get core.nodes n ≡ Some x → slice_get ann.notes n ≡ Some t → stores x.kind ≡ true → t.ends ≡ true
-stored_ends core ann needs n x t at is h = let l = left_at core ann needs n x t at is in l.leaves.ends ∙ stores_end x.kind l.notes h
-
 -- ---- definitions and assignments
 
 module _ (settle : SettleLaw) (take : TakeLaw) (core : CoreData) (climb : ClimbLaw core) (ann : Ann) (flat : LiveShallow core ann) (needs : Needs core ann) (around : Around) (f : Frame) (fs : List Frame) (r : Runs core ann around f fs) (n : ℕ)
@@ -158,7 +149,7 @@ module _ (settle : SettleLaw) (take : TakeLaw) (core : CoreData) (climb : ClimbL
       let left : g.note.live_after ≡ with_number g.behind.0 z = q.says.live ∙ ap (λ (m : Masks). with_number m.0 z) same in
       let is_slot : slot_of core ann f.method z ≡ Some q.slot = subst (λ (m : ℕ). slot_of core ann m z ≡ Some q.slot) g.own q.is_slot in
       let bit : IsInMask g.note.live_after z = subst (λ (m : Mask). IsInMask m z) (sym left) ((with_number_bits g.behind.0 z z).1 (inl (refl, few z names.1.0.slots names.1.2 (needs.formed.methods g.node.method names.1.0 names.1.1).few_slots))) in
-      let outer : q.slot.0.depth ≤ s.active.depth = subst (λ (d : ℕ). q.slot.0.depth ≤ d) g.depth (slot_depth core ann g.node.method z g.node.depth g.note.live_after q.slot ((flat n g.node g.note g.is_node g.is_note).1 (λ b. false_true (sym (ap stores b) ∙ g.kind)) (stored_ends core ann needs n g.node g.note g.is_node g.is_note g.kind)) bit q.is_slot) in
+      let outer : q.slot.0.depth ≤ s.active.depth = subst (λ (d : ℕ). q.slot.0.depth ≤ d) g.depth (slot_depth core ann g.node.method z g.node.depth g.note.live_after q.slot ((flat n g.node g.note g.is_node g.is_note).1 (λ b. false_true (sym (ap stores b) ∙ g.kind))) bit q.is_slot) in
       let close : (q.slot.0.depth ≡ s.active.depth) ⊎ (sendable q.slot.1.1 ≡ true) = elim near [ inl k ↦ inl (k ∙ g.depth) | inr k ↦ inr k ] in
       let less = (and_parts (is_sub core q.value.0 q.slot.1.0) (fits q.value.1 q.slot.1.1) q.goes).1 in
       let typed : OfSome core around.objects g.note.ty (value_or_none (held (slice_get f.slots z))) = subst (λ (o : Option Ty). OfSome core around.objects o (value_or_none (held (slice_get f.slots z)))) (sym q.says.ty) (old_ok core ann needs around f fs r n me z names q) in

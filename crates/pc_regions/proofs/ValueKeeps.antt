@@ -15,8 +15,8 @@ use Rattle.pc_semantics.specs.declared.frames.Task.TheVariants as task
 use Rattle.pc_rules.specs.{Parts.{reachable, full}, Values.this_form}
 use Rattle.pc_valid.specs.Words.{Ty, before}
 use Rattle.pc_rules.proofs.ByNumber.{slot_of}
-use Rattle.pc_types.proofs.{Types.{OfType, held_in}, Tasks.{Within, Follows, EndsOk, TasksOk}, Moves.Runs, Needs.Needs, Needed.{first_own, not_first}, Basic.of_lower, EvalValue.{not_zero, seen_this, slot_ok}, Places.taken_lower, Inverse.{Says, Used, ThisRule}, Notes.names_fit}
-use Rattle.pc_regions.proofs.{World.{Place, InSlot, OnStack, InField, InMail, Opened, World, Seen, Fits, Alias, AliasIn, FitsSome}, StackForms.{Entry, Rises, entry_of, EndsRises, TasksRise}, Fitting.{OpenedTo, ThisFits, SlotsFit, StackFits}, MoveFits.{elsewhere, RegionMoveOk, Situated}, Changes.Shifts, Climbed.ClimbLaw, Shifts.{others_kept, fields_kept, below_kept, shifts_none}, Rising.{Pushes, rise, others_both, not_here, lower_frame}, ChildForms.at_depth, SlotSeen.{slot_read, iso_free, trn_free}, Waiting.slot_depth, Taken.{Free, Takes, TakeLaw}}
+use Rattle.pc_types.proofs.{Types.{OfType, held_in}, Tasks.{Within, Follows, EvalOk, TasksOk}, Moves.Runs, Needs.Needs, Needed.{first_own, not_first}, Basic.of_lower, EvalValue.{not_zero, seen_this, slot_ok}, Places.taken_lower, Inverse.{Says, Used, ThisRule}, Notes.names_fit}
+use Rattle.pc_regions.proofs.{World.{Place, InSlot, OnStack, InField, InMail, Opened, World, Seen, Fits, Alias, AliasIn, FitsSome}, StackForms.{Entry, Rises, entry_of, EvalRises, TasksRise}, Fitting.{OpenedTo, ThisFits, SlotsFit, StackFits}, MoveFits.{elsewhere, RegionMoveOk, Situated}, Changes.Shifts, Climbed.ClimbLaw, Shifts.{others_kept, fields_kept, below_kept, shifts_none}, Rising.{Pushes, rise, others_both, not_here, lower_frame}, ChildForms.at_depth, SlotSeen.{slot_read, iso_free, trn_free}, Waiting.slot_depth, Taken.{Free, Takes, TakeLaw}}
 
 -- ---- forms that require nothing
 
@@ -95,7 +95,7 @@ slot_elsewhere i h s (InField a f) e = refl
 slot_elsewhere i h s (InMail j t f) e = refl
 
 module _ (core : CoreData) (ann : Ann) (needs : Needs core ann) (climb : ClimbLaw core) (take : TakeLaw) (around : Around) (f : Frame) (fs : List Frame) (r : Runs core ann around f fs) (w : World) (n : ℕ) (s : Situated core ann w around f (task.Eval n ∷ f.tasks) fs)
-    (e : EndsRises core ann f.method s.active.depth s.active.holds.live s.active.holds.entries n (λ d l g. TasksRise core ann f.method f.tasks d l g)) (t : EndsOk core ann f.method r.held.live r.held.set r.held.wants n (λ l z g. TasksOk core ann f.method f.tasks l z g)) where
+    (e : EvalRises core ann f.method s.active.depth s.active.holds.live s.active.holds.entries n (λ d l g. TasksRise core ann f.method f.tasks d l g)) (t : EvalOk core ann f.method r.held.live r.held.set r.held.wants n (λ l z g. TasksOk core ann f.method f.tasks l z g)) where
   abbrev i : ℕ
   i = around.actor
 
@@ -152,7 +152,7 @@ module _ (core : CoreData) (ann : Ann) (needs : Needs core ann) (climb : ClimbLa
 
   -- ---- the typed evaluation, of the same node and note
 
-  abbrev typed_eval : EndsOk core ann f.method r.held.live r.held.set r.held.wants n (λ l z g. TasksOk core ann f.method f.tasks l z g)
+  abbrev typed_eval : EvalOk core ann f.method r.held.live r.held.set r.held.wants n (λ l z g. TasksOk core ann f.method f.tasks l z g)
   typed_eval = record {
     node = e.node;
     is_node = e.is_node;

@@ -13,14 +13,13 @@ use Rattle.pc_semantics.specs.declared.frames.Frame.{Frame}
 use Rattle.pc_valid.specs.Words.{Ty}
 use Rattle.pc_rules.proofs.ByNumber.{slot_of}
 use Rattle.pc_core.specs.declared.declarations.MethodKind.TheVariants as method
-use Rattle.pc_regions.proofs.{World.{Over, World, Opened, InSlot, OnStack, Fits, FitsSome}, StackForms.{Entry, Ascent, Joins, Decides, Recovers, Reforms, Shallow, SlotsShallow, ascend, top_of}, Fitting.{StackFits, ThisFits, SlotsFit, Entered, Awaits, WaitFits, Holds}}
+use Rattle.pc_regions.proofs.{World.{Over, World, Opened, InSlot, OnStack, Fits, FitsSome}, StackForms.{Entry, Ascent, Joins, Decides, Recovers, Shallow, SlotsShallow, ascend, top_of}, Fitting.{StackFits, ThisFits, SlotsFit, Entered, Awaits, WaitFits, Holds}}
 
 -- A value that goes up becomes no deeper.
 ascends_down : (a : Ascent) (e : Entry) → (ascend a e).depth ≤ e.depth
 ascends_down (Joins t) e = omega arith
 ascends_down Decides e = omega arith
 ascends_down (Recovers k) e = omega arith
-ascends_down (Reforms t) e = omega arith
 
 pub top_down : (way : List Ascent) (e : Entry) → (top_of way e).depth ≤ e.depth
 top_down [] e = omega arith
@@ -138,7 +137,6 @@ module _
           less = k.less;
           not_deeper = k.not_deeper;
           next = k.next;
-          error = k.error;
         }
 
     pub wait_low : (b m : ℕ) (fs : List Frame) → length fs ≤ bound → b ≤ level → WaitFits core ann w j b m fs → WaitFits core ann w' j b m fs

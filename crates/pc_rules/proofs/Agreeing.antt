@@ -1,19 +1,18 @@
 -- Two annotations of a core, node by node: if they agree before a node, and start it from the same masks, they agree at
 -- it.
-use Rattle.std.specs.Prelude.{◌≡◌, ℕ, ◌+◌, ◌-◌, ◌<◌, ◌≤◌, Bool, true, ◌&&◌, cond, nat_eq, List, length, Option, Some, None, slice_get, refl}
+use Rattle.std.specs.Prelude.{◌≡◌, ℕ, ◌+◌, ◌-◌, ◌<◌, ◌≤◌, true, ◌&&◌, nat_eq, length, Some, slice_get, refl}
 use Rattle.std.proofs.{Common.{inl, inr, ap, sym, subst, ◌∙◌, arith}, lemmas.Option.{same_Some, none-some}, lemmas.Bool.{cases_lt, and_parts, eqb-true}}
 use Rattle.pc_base.proofs.{Gets.{get_below, get_within, get_map, range_get}, Ranges.run_within, Options.{bind_some, kept}, Bools.false_true}
 use Rattle.pc_caps.specs.declared.capability.Cap.{Cap}
 use Rattle.pc_caps.specs.declared.capability.Cap.TheVariants as cap
-use Rattle.pc_core.specs.{declared.declarations.Method.Method, declared.kinds.Exit.Exit, declared.nodes.Slot.Slot, declared.nodes.Node.Node, declared.nodes.NodeKind.NodeKind, CoreData.{CoreData, node_end}, Methods.{LocalFits, BodyFits, UsesSlot}, Entities.this_slot, Nodes.{NamesSlot, NamesFit}, Formed.Formed}
-use Rattle.pc_core.specs.declared.kinds.Exit.TheVariants as exit
+use Rattle.pc_core.specs.{declared.declarations.Method.Method, declared.nodes.Slot.Slot, declared.nodes.Node.Node, declared.nodes.NodeKind.NodeKind, CoreData.{CoreData, node_end}, Methods.{LocalFits, BodyFits, UsesSlot}, Entities.this_slot, Nodes.{NamesSlot, NamesFit}, Formed.Formed}
 use Rattle.pc_core.specs.declared.nodes.NodeKind.TheVariants as node
 use Rattle.pc_base.specs.Lists.{Each}
 use Rattle.pc_masks.specs.{declared.mask.Mask.Mask, Masks.{same, first}}
 use Rattle.pc_ann.specs.{declared.annotation.Note.Note, declared.annotation.Ann.Ann, declared.annotation.Rule.Rule}
-use Rattle.pc_rules.specs.{declared.said.Said.Said, Parts.{through, type_of, notes_of, one_child, goes_to}, Values.{same_cap, same_place, defined_type, defines}, Control.{start_set, starts_method, gives_ok, exits_ok}, Rules.{rule_says, says, said_by, IsSaid, IsLeft}}
-use Rattle.pc_valid.specs.{Words.{Ty, Masks, before, masks_after}, Exits.{met, exits_of, may_fail, raised, stopped, without_at, outside, own_exit}, Valid.KeepsWritten}
-use Rattle.pc_rules.proofs.{ByNumber.{slot_of, defined, define_says, body_says}, OneRule.{define_rule, body_rule}, Threads.is_rule_at, Bridge.by_number, Alike.{LooksAlike, notes_same, slot_same, says_same, type_same, at_one}, Slotted.{slot_known, this_known}}
+use Rattle.pc_rules.specs.{declared.said.Said.Said, Parts.{through, type_of, one_child, goes_to}, Values.{same_cap, same_place, defined_type, defines}, Control.{start_set, starts_method, result_ok}, Rules.{says, said_by, IsSaid}}
+use Rattle.pc_valid.specs.{Words.{Ty, Masks, before}, Valid.KeepsWritten}
+use Rattle.pc_rules.proofs.{ByNumber.{slot_of, defined, define_says, body_says}, OneRule.{define_rule, body_rule}, Threads.is_rule_at, Bridge.by_number, Alike.{LooksAlike, slot_same, says_same, type_same, at_one}, Slotted.{slot_known, this_known}}
 use Rattle.pc_core.proofs.Homes.{home, home_method}
 
 -- ---- equalities
@@ -39,42 +38,11 @@ caps_equal a b e = absurd (false_true e)
 pub places_equal : (a b : ℕ × Cap) → same_place a b ≡ true → a ≡ b
 places_equal a b e = let p = and_parts (nat_eq a.0 b.0) (same_cap a.1 b.1) e in same_pair a.0 b.0 a.1 b.1 (eqb-true a.0 b.0 p.0) (caps_equal a.1 b.1 p.1)
 
--- A note from its parts.
-abbrev part_of : Rule → Masks → Said → Bool → Option Masks → Option Masks → Option Masks → Note
-part_of r m q ends breaks continues errors = record {
-  rule = r;
-  ty = q.ty;
-  live_before = m.0;
-  set_before = m.1;
-  live_after = q.live;
-  set_after = q.set;
-  ends = ends;
-  breaks = breaks;
-  continues = continues;
-  errors = errors;
-}
-
-pub notes_equal : (s t : Note) → s.rule ≡ t.rule → before s ≡ before t → said_by s ≡ said_by t → s.ends ≡ t.ends → s.breaks ≡ t.breaks → s.continues ≡ t.continues → s.errors ≡ t.errors → s ≡ t
-notes_equal s t r m q e x y z =
-    ap (λ (k : Rule). part_of k (before s) (said_by s) s.ends s.breaks s.continues s.errors) r
-    ∙ ap (λ (k : Masks). part_of t.rule k (said_by s) s.ends s.breaks s.continues s.errors) m
-    ∙ ap (λ (k : Said). part_of t.rule (before t) k s.ends s.breaks s.continues s.errors) q
-    ∙ ap (λ (k : Bool). part_of t.rule (before t) (said_by t) k s.breaks s.continues s.errors) e
-    ∙ ap (λ (k : Option Masks). part_of t.rule (before t) (said_by t) t.ends k s.continues s.errors) x
-    ∙ ap (λ (k : Option Masks). part_of t.rule (before t) (said_by t) t.ends t.breaks k s.errors) y
-    ∙ ap (λ (k : Option Masks). part_of t.rule (before t) (said_by t) t.ends t.breaks t.continues k) z
-
--- The exits of a node follow from its masks and from the notes of its children.
-raised_same : (core : CoreData) (s t : Note) (ns : List Note) (k : NodeKind) (x : Exit) → before s ≡ before t → masks_after s ≡ masks_after t → raised core s ns k x ≡ raised core t ns k x
-raised_same core s t ns node.Break exit.Break b a = ap Some b
-raised_same core s t ns node.Continue exit.Continue b a = ap Some b
-raised_same core s t ns node.Error exit.Error b a = ap Some b
-raised_same core s t ns k exit.Error b a = ap (λ (m : Masks). cond (may_fail core ns k) (Some m) None) a
-raised_same core s t ns k x b a = refl
-
-pub exit_same : (core : CoreData) (s t : Note) (ns : List Note) (n : Node) (x : Exit) → before s ≡ before t → masks_after s ≡ masks_after t → own_exit core s ns n x ≡ own_exit core t ns n x
-exit_same core s t ns n x b a =
-    ap (λ (o : Option Masks). outside core n.kind n.children (met o (exits_of x (without_at (stopped n.kind x) ns)))) (raised_same core s t ns n.kind x b a)
+pub notes_equal : (s t : Note) → s.rule ≡ t.rule → before s ≡ before t → said_by s ≡ said_by t → s ≡ t
+notes_equal s t r m q =
+    ap (λ k. record { rule = k; ty = s.ty; live_before = s.live_before; set_before = s.set_before; live_after = s.live_after; set_after = s.set_after }) r
+    ∙ ap (λ (k : Masks). record { rule = t.rule; ty = s.ty; live_before = k.0; set_before = k.1; live_after = s.live_after; set_after = s.set_after }) m
+    ∙ ap (λ (k : Said). record { rule = t.rule; ty = k.ty; live_before = t.live_before; set_before = t.set_before; live_after = k.live; set_after = k.set }) q
 
 -- ---- slots
 
@@ -116,8 +84,8 @@ body_starts core ann x m q f e g =
     let b = bind_some (one_child x.children) _ q a.2 in
     let c = bind_some (slice_get ann.notes b.0) _ q b.2 in
     let d = bind_some (through ann x.children m) _ q c.2 in
-    let k = kept (starts_method core a.0 m && (gives_ok core a.0 c.0 && exits_ok a.0 c.0)) _ q d.2 in
-    let p = and_parts (starts_method core a.0 m) (gives_ok core a.0 c.0 && exits_ok a.0 c.0) k.0 in
+    let k = kept (starts_method core a.0 m && result_ok core a.0.kind a.0.result c.0.ty) _ q d.2 in
+    let p = and_parts (starts_method core a.0 m) (result_ok core a.0.kind a.0.result c.0.ty) k.0 in
     let r = and_parts (same m.0 (first (1 + length a.0.params))) (same m.1 (start_set core a.0)) p.0 in
     subst (λ (z : Method). m ≡ (first (1 + length z.params), start_set core z)) (same_Some a.0 f (sym a.1 ∙ g))
     (same_pair m.0 (first (1 + length a.0.params)) m.1 (start_set core a.0) (same_mask m.0 (first (1 + length a.0.params)) r.0) (same_mask m.1 (start_set core a.0) r.1))
@@ -196,19 +164,14 @@ module _ (core : CoreData) (a b : Ann) (formed : Formed core) (wa : KeepsWritten
       (define_inv core a x s m p (define_rule core a x m r s p (by_number core a x m r (node.Define s) p (subst (λ j. says core a x m r j ≡ Some p) e u))))
       (define_inv core b x s m q (define_rule core b x m o s q (by_number core b x m o (node.Define s) q (subst (λ j. says core b x m o j ≡ Some q) e v))))
 
-  pub node_step : (n : ℕ) (x : Node) (s t : Note) → slice_get core.nodes n ≡ Some x → Each (λ i c. c < n) x.children → Agree core a b n → slice_get a.notes n ≡ Some s → slice_get b.notes n ≡ Some t → IsSaid core a x s → IsSaid core b x t → IsLeft core a x s → IsLeft core b x t → before s ≡ before t → Agree core a b (n + 1)
-  node_step n x s t g h same ga gb ma mb la lb m =
+  pub node_step : (n : ℕ) (x : Node) (s t : Note) → slice_get core.nodes n ≡ Some x → Each (λ i c. c < n) x.children → Agree core a b n → slice_get a.notes n ≡ Some s → slice_get b.notes n ≡ Some t → IsSaid core a x s → IsSaid core b x t → before s ≡ before t → Agree core a b (n + 1)
+  node_step n x s t g h same ga gb ma mb m =
       let eb : says core b x (before s) t.rule x.kind ≡ Some (said_by t) = subst (λ k. says core b x k t.rule x.kind ≡ Some (said_by t)) (sym m) mb in
       let looks = looks_alike n x x.kind (before s) s.rule t.rule (said_by s) (said_by t) same g h refl ma eb in
       let ec : says core b x (before s) s.rule x.kind ≡ Some (said_by s) = sym (says_same core a b x (λ i c e. same.notes c (h i c e)) s.rule x.kind (before s) looks) ∙ ma in
       let rule = is_rule_at core b x (before s) s.rule x.kind (said_by s) formed (by_number core b x (before s) s.rule x.kind (said_by s) ec) ∙ sym (is_rule_at core b x (before s) t.rule x.kind (said_by t) formed (by_number core b x (before s) t.rule x.kind (said_by t) eb)) in
       let said = same_Some (said_by s) (said_by t) (sym ec ∙ ap (λ r. says core b x (before s) r x.kind) rule ∙ eb) in
-      let after : masks_after s ≡ masks_after t = ap (λ (q : Said). (q.live, q.set)) said in
-      let ns = bind_some (notes_of a.notes x.children) (λ ts. rule_says core a.slots ts x (before s) s.rule x.kind) (said_by s) ma in
-      let one = la ns.0 ns.1 in
-      let other = lb ns.0 (sym (notes_same a b x.children (λ i c e. same.notes c (h i c e))) ∙ ns.1) in
-      let exits = λ (y : Exit). exit_same core s t ns.0 x y m after in
-      let eq = notes_equal s t rule m said (one.ends ∙ sym other.ends) (one.breaks ∙ exits exit.Break ∙ sym other.breaks) (one.continues ∙ exits exit.Continue ∙ sym other.continues) (one.errors ∙ exits exit.Error ∙ sym other.errors) in
+      let eq = notes_equal s t rule m said in
       record {
         notes = λ k l. elim (cases_lt k n) [
           | inl below ↦ same.notes k below

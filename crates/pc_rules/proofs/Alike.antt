@@ -38,7 +38,7 @@ abbrev pub SameNotes : Ann → Ann → List ℕ → Type 0
 SameNotes a b cs = Each (λ i c. SameNote a b c) cs
 
 module _ (a b : Ann) where
-  pub notes_same : (cs : List ℕ) → SameNotes a b cs → notes_of a.notes cs ≡ notes_of b.notes cs
+  notes_same : (cs : List ℕ) → SameNotes a b cs → notes_of a.notes cs ≡ notes_of b.notes cs
   notes_same [] h = refl
   notes_same (c ∷ cs) h =
       bind_same (slice_get a.notes c) (slice_get b.notes c) _ _ (h 0 c refl) (λ t e.

@@ -6,11 +6,11 @@ use Rattle.pc_caps.specs.declared.capability.Form.TheVariants as form
 use Rattle.pc_core.specs.{declared.declarations.Method.Method, declared.declarations.ParamInfo.ParamInfo, declared.nodes.Node.Node, declared.nodes.NodeKind.NodeKind, CoreData.CoreData, Nodes.HasArity}
 use Rattle.pc_core.specs.declared.nodes.NodeKind.TheVariants as node
 use Rattle.pc_base.specs.Lists.{◌>>=◌}
-use Rattle.pc_base.proofs.Options.{bind_some, bind_is}
-use Rattle.pc_masks.specs.declared.mask.Mask.{Mask}
+use Rattle.pc_base.proofs.Options.{bind_some}
+use Rattle.pc_masks.specs.{declared.mask.Mask.Mask, Masks.{within, same}}
 use Rattle.pc_ann.specs.{declared.annotation.Note.Note, declared.annotation.Ann.Ann, declared.annotation.Rule.Rule}
 use Rattle.pc_ann.specs.declared.annotation.Rule.TheVariants as rule
-use Rattle.pc_rules.specs.{declared.said.Said.Said, Parts.{says_of, reads_as, constructs, starts, through, through_notes, type_of, types_of, one_child, one_note, one_type, two_notes, three_notes, last_child, last_note, notes_of}, Fields.lacks_fields, Operators.{is_arithmetic, is_comparison, is_equality, is_add, is_xor, comparable, both_read_as, meet_masks}, Control.{is_condition, joined_ends}, Calls.{argument_goes, argument_sendable, is_function, is_behaviour, lends}, Rules.{rule_says, says, said_by, IsSaid, NoteIsSaid}}
+use Rattle.pc_rules.specs.{declared.said.Said.Said, Parts.{says_of, reads_as, constructs, starts, through, through_notes, type_of, types_of, one_child, one_note, one_type, two_notes, three_notes, last_child, last_note, notes_of}, Fields.lacks_fields, Operators.{is_arithmetic, is_comparison, is_equality, is_add, is_xor, comparable, both_read_as, meet_masks}, Control.{is_condition, joined}, Calls.{argument_goes, argument_sendable, is_function, is_behaviour, lends}, Rules.{rule_says, says, said_by, IsSaid, NoteIsSaid}}
 use Rattle.pc_valid.specs.Words.{Ty, Masks, Slots, before, masks_after}
 use Rattle.pc_rules.specs.Parts as parts
 use Rattle.pc_rules.specs.Values as values
@@ -18,7 +18,7 @@ use Rattle.pc_rules.specs.Fields as fields
 use Rattle.pc_rules.specs.Calls as calls
 use Rattle.pc_rules.specs.Operators as operators
 use Rattle.pc_rules.specs.Control as control
-use Rattle.pc_rules.proofs.{ByNumber.{two_children, three_children, own_seen}, Alike.bind_same, Threads.{is_branch, Threaded, threads}}
+use Rattle.pc_rules.proofs.{ByNumber.{two_children, three_children, own_seen}, Alike.bind_same, Threads.{is_branch, Threaded, then_way, else_way, threads, if_threads}}
 use Rattle.pc_rules.proofs.ByNumber as numbered
 
 -- The notes of these nodes are these.
@@ -156,13 +156,14 @@ module _ (ann : Ann) where
       ∙ cond_twice (starts t.1 (masks_after t.0)) (starts t.2 (masks_after t.0)) _)
       ∙ cond_twice (starts t.0 m) (starts t.1 (masks_after t.0) && starts t.2 (masks_after t.0)) _
 
-  -- The notes of these nodes are found.
-  notes_by : (cs : List ℕ) (ns : List Note) → Noted ann cs ns → notes_of ann.notes cs ≡ Some ns
-  notes_by [] [] h = refl
-  notes_by [] (t ∷ ts) h = absurd h
-  notes_by (c ∷ cs) [] h = absurd h
-  notes_by (c ∷ cs) (t ∷ ts) h =
-      bind_is (slice_get ann.notes c) _ t h.0 ∙ bind_is (notes_of ann.notes cs) (λ (more : List Note). Some (t ∷ more)) ts (notes_by cs ts h.1)
+  loop_by : (c : ℕ × ℕ) (t : Note × Note) (m : Masks) → slice_get ann.notes c.0 ≡ Some t.0 → slice_get ann.notes c.1 ≡ Some t.1 → numbered.loop_masks ann c m ≡ control.loop_masks t m
+  loop_by c t m p q =
+      bind_same (through ann (c.0 ∷ []) m) (cond (starts t.0 m) (Some (masks_after t.0)) None) _ _ (only_by c.0 t.0 m p) (λ n e.
+      bind_same (through ann (c.1 ∷ []) n) (cond (starts t.1 n) (Some (masks_after t.1)) None) _ _ (only_by c.1 t.1 n q) (λ k f. refl))
+      ∙ cond_then (starts t.0 m) (masks_after t.0) _
+      ∙ ap (λ o. cond (starts t.0 m) o None) (cond_then (starts t.1 (masks_after t.0)) (masks_after t.1) _)
+      ∙ cond_twice (starts t.0 m) (starts t.1 (masks_after t.0)) _
+      ∙ cond_twice (starts t.0 m && starts t.1 (masks_after t.0)) (within m.0 t.1.live_after && same t.1.set_after m.1) _
 
 -- The notes of the children of node x.
 module _ (core : CoreData) (ann : Ann) (x : Node) (ns : List Note) (h : Noted ann x.children ns) where
@@ -269,15 +270,15 @@ module _ (core : CoreData) (ann : Ann) (x : Node) (ns : List Note) (h : Noted an
 
   -- ---- calls
 
-  new_by : (k : ℕ) (m : Masks) → numbered.new_says core ann x k m ≡ calls.new_says core ns x k m
+  new_by : (k : ℕ) (m : Masks) → numbered.new_says core ann x k m ≡ calls.new_says core ns k m
   new_by k m =
       bind_same (slice_get core.methods k) (slice_get core.methods k) _ _ refl (λ f e.
-      through_then m _ _ (λ n. ap (λ t. cond (t && calls.mark_fits x.mark f) (Some (says_of (Some f.result) n)) None) (arguments_by ann core x.children ns f.params h)))
+      through_then m _ _ (λ n. ap (λ t. cond t (Some (says_of (Some f.result) n)) None) (arguments_by ann core x.children ns f.params h)))
 
-  spawn_by : (k : ℕ) (m : Masks) → numbered.spawn_says core ann x k m ≡ calls.spawn_says core ns x k m
+  spawn_by : (k : ℕ) (m : Masks) → numbered.spawn_says core ann x k m ≡ calls.spawn_says core ns k m
   spawn_by k m =
       bind_same (slice_get core.methods k) (slice_get core.methods k) _ _ refl (λ f e.
-      through_then m _ _ (λ n. ap (λ t. cond (t && calls.mark_fits x.mark f) (Some (says_of (Some (f.entity, form.Tag)) n)) None) (arguments_by ann core x.children ns f.params h)))
+      through_then m _ _ (λ n. ap (λ t. cond t (Some (says_of (Some (f.entity, form.Tag)) n)) None) (arguments_by ann core x.children ns f.params h)))
 
   receiver_by : (last_child x.children >>= type_of ann) ≡ (last_note ns >>= λ r. r.ty)
   receiver_by = bind_twice (last_child x.children) (slice_get ann.notes) (λ t. t.ty) ∙ ap (λ (o : Option Note). o >>= λ t. t.ty) last_by
@@ -302,25 +303,25 @@ module _ (core : CoreData) (ann : Ann) (x : Node) (ns : List Note) (h : Noted an
   sends_by : (f : Method) → numbered.sends core ann x f ≡ calls.sends core ns f
   sends_by f = ap (λ g. is_behaviour f.kind && g) (go_by f)
 
-  call_by : (name : ℕ) (m : Masks) → numbered.call_says core ann x name m ≡ calls.call_says core ns x name m
+  call_by : (name : ℕ) (m : Masks) → numbered.call_says core ann x name m ≡ calls.call_says core ns name m
   call_by name m =
       bind_same (numbered.called core ann x name) (calls.called core ns name) _ _ (called_by name) (λ i e.
       bind_same (slice_get core.methods i.1) (slice_get core.methods i.1) _ _ refl (λ f g.
-      through_then m _ _ (λ n. ap (λ t. cond (t && calls.mark_fits x.mark f) (Some (says_of (Some f.result) n)) None) (calls_by i.0 f))))
+      through_then m _ _ (λ n. ap (λ t. cond t (Some (says_of (Some f.result) n)) None) (calls_by i.0 f))))
 
-  send_by : (name : ℕ) (m : Masks) → numbered.send_says core ann x name m ≡ calls.send_says core ns x name m
+  send_by : (name : ℕ) (m : Masks) → numbered.send_says core ann x name m ≡ calls.send_says core ns name m
   send_by name m =
       bind_same (numbered.called core ann x name) (calls.called core ns name) _ _ (called_by name) (λ i e.
       bind_same (slice_get core.methods i.1) (slice_get core.methods i.1) _ _ refl (λ f g.
-      through_then m _ _ (λ n. ap (λ t. cond (t && calls.mark_fits x.mark f) (Some (says_of (Some (0, form.Val)) n)) None) (sends_by f))))
+      through_then m _ _ (λ n. ap (λ t. cond t (Some (says_of (Some (0, form.Val)) n)) None) (sends_by f))))
 
-  callrecover_by : (name : ℕ) (m : Masks) → numbered.callrecover_says core ann x name m ≡ calls.callrecover_says core ns x name m
+  callrecover_by : (name : ℕ) (m : Masks) → numbered.callrecover_says core ann x name m ≡ calls.callrecover_says core ns name m
   callrecover_by name m =
       bind_same (numbered.called core ann x name) (calls.called core ns name) _ _ (called_by name) (λ i e.
       bind_same (slice_get core.methods i.1) (slice_get core.methods i.1) _ _ refl (λ f g.
-      through_then m _ _ (λ n. ap (λ t. cond (t && calls.mark_fits x.mark f) (Some (says_of (calls.recovered_result f.result) n)) None) (recovers_by i.0 f))))
+      through_then m _ _ (λ n. ap (λ t. cond t (Some (says_of (calls.recovered_result f.result) n)) None) (recovers_by i.0 f))))
 
-  builtin_by : (name : ℕ) (m : Masks) → numbered.builtin_says core ann x name m ≡ calls.builtin_says core ns x name m
+  builtin_by : (name : ℕ) (m : Masks) → numbered.builtin_says core ann x name m ≡ calls.builtin_says core ns name m
   builtin_by name m =
       one_then _ _ (λ v.
       bind_same (slice_get core.names name) (slice_get core.names name) _ _ refl (λ t e.
@@ -348,19 +349,21 @@ module _ (core : CoreData) (ann : Ann) (x : Node) (ns : List Note) (h : Noted an
   seq_by m =
       bind_twice (last_child x.children) (slice_get ann.notes) _
       ∙ bind_same (last_child x.children >>= slice_get ann.notes) (last_note ns) _ _ last_by (λ t e.
-      through_then m _ _ (λ n. bind_is (notes_of ann.notes x.children) _ ns (notes_by ann x.children ns h)))
+      through_then m _ _ (λ n. refl))
 
   if_by : (m : Masks) → numbered.if_says core ann x m ≡ control.if_says core ns m
   if_by m =
       three_by ann x.children ns _ _ h (λ c t p q r.
       bind_same (numbered.branch_masks ann c m) (control.branch_masks t m) _ _ (branch_by ann c t m p q r) (λ n e.
-      bind_same (numbered.branch_notes ann c) (Some (t.1, t.2)) _ (λ ts. cond (is_condition t.0.ty) (Some (says_of (joined_ends core ts.0 ts.1) n)) None)
-      (ap (λ (o : Option Note). o >>= λ a. slice_get ann.notes c.2 >>= λ b. Some (a, b)) q ∙ ap (λ (o : Option Note). o >>= λ b. Some (t.1, b)) r)
-      (λ ts f. ap (λ ty. cond (is_condition ty) (Some (says_of (joined_ends core ts.0 ts.1) n)) None) (type_by ann c.0 t.0 p))))
+      bind_same (numbered.branch_types ann c) (Some (t.1.ty, t.2.ty)) _ (λ ts. cond (is_condition t.0.ty) (Some (says_of (joined core ts.0 ts.1) n)) None)
+      (ap (λ (o : Option Note). o >>= λ a. slice_get ann.notes c.2 >>= λ b. Some (a.ty, b.ty)) q ∙ ap (λ (o : Option Note). o >>= λ b. Some (t.1.ty, b.ty)) r)
+      (λ ts f. ap (λ ty. cond (is_condition ty) (Some (says_of (joined core ts.0 ts.1) n)) None) (type_by ann c.0 t.0 p))))
 
-  -- Loops, `return` and `try`.
-  all_by : (f : List Note → Option Said) → numbered.by_notes ann x f ≡ f ns
-  all_by f = bind_is (notes_of ann.notes x.children) f ns (notes_by ann x.children ns h)
+  while_by : (m : Masks) → numbered.while_says ann x m ≡ control.while_says ns m
+  while_by m =
+      two_by ann x.children ns _ _ h (λ c t p q.
+      bind_same (numbered.loop_masks ann c m) (control.loop_masks t m) _ _ (loop_by ann c t m p q) (λ n e.
+      ap (λ ty. cond (is_condition ty) (Some (says_of (Some (0, form.Val)) n)) None) (type_by ann c.0 t.0 p)))
 
   recover_by : (k : Option Cap) (m : Masks) → numbered.recover_says ann x k m ≡ control.recover_says ns k m
   recover_by k m =
@@ -399,10 +402,7 @@ module _ (core : CoreData) (ann : Ann) (x : Node) (ns : List Note) (h : Noted an
   says_by rule.Identity (node.Same v) m = both_then _ _ (λ w. value_says_by 2 m)
   says_by rule.Seq node.Seq m = seq_by m
   says_by rule.If node.If m = if_by m
-  says_by rule.While node.While m = all_by (λ ts. control.while_says ts m)
-  says_by rule.Repeat node.Repeat m = all_by (λ ts. control.repeat_says ts m)
-  says_by rule.Return node.Return m = all_by (λ ts. control.return_says core ts x m)
-  says_by rule.Try (node.Try strict) m = all_by (λ ts. control.try_says core ts strict m)
+  says_by rule.While node.While m = while_by m
   says_by rule.Recover (node.Recover k) m = recover_by k m
   says_by rule.Body node.Body m = body_by m
   says_by r k m = refl
@@ -427,3 +427,6 @@ meets_by_number core ann x t m = by_number core ann x (before t) t.rule x.kind (
 
 pub meets_threads : (core : CoreData) (ann : Ann) (x : Node) (t : Note) → is_branch x.kind ≡ false → HasArity x.kind (length x.children) → IsSaid core ann x t → Threaded ann x.children (before t)
 meets_threads core ann x t plain arity m = threads core ann x (before t) (said_by t) t.rule x.kind plain arity (meets_by_number core ann x t m)
+
+pub meets_if_threads : (core : CoreData) (ann : Ann) (x : Node) (t : Note) → x.kind ≡ node.If → IsSaid core ann x t → Threaded ann (then_way x.children) (before t) × Threaded ann (else_way x.children) (before t)
+meets_if_threads core ann x t is m = if_threads core ann x (before t) (said_by t) t.rule is (meets_by_number core ann x t m)

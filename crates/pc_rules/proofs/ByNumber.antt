@@ -7,10 +7,10 @@ use Rattle.pc_tree.specs.declared.kinds.Op.{Op}
 use Rattle.pc_core.specs.{declared.declarations.FieldInfo.FieldInfo, declared.declarations.Method.Method, declared.declarations.ParamInfo.ParamInfo, declared.nodes.Slot.Slot, declared.nodes.Node.Node, declared.nodes.NodeKind.NodeKind, CoreData.{CoreData, method_named}}
 use Rattle.pc_core.specs.declared.nodes.NodeKind.TheVariants as node
 use Rattle.pc_base.specs.Lists.{◌>>=◌}
-use Rattle.pc_masks.specs.{declared.mask.Mask.Mask, Masks.{has, with_number, without_number}}
+use Rattle.pc_masks.specs.{declared.mask.Mask.Mask, Masks.{has, with_number, without_number, within, same}}
 use Rattle.pc_ann.specs.{declared.annotation.Note.Note, declared.annotation.Ann.Ann, declared.annotation.Rule.Rule}
 use Rattle.pc_ann.specs.declared.annotation.Rule.TheVariants as rule
-use Rattle.pc_rules.specs.{declared.said.Said.Said, Parts.{says_of, reads_as, reachable, constructs, through, type_of, one_child, last_child, notes_of}, Values.{literal_says, this_form, defines, assigns, old_value}, Fields.{own_field, is_this, lacks_fields, field_type, old_type, own_old, own_writes}, Calls.{argument_goes, is_function, is_behaviour, argument_sendable, lends, recovered_result, has_string, mark_fits, no_question}, Operators.{is_arithmetic, is_comparison, is_equality, is_add, is_xor, both_read_as, comparable, meet_masks}, Control.{all_but_last_end, seq_live, joined_ends, is_condition, while_says, repeat_says, return_says, jump_says, try_says, recovered, starts_method, gives_ok, exits_ok}, Rules.said_by}
+use Rattle.pc_rules.specs.{declared.said.Said.Said, Parts.{says_of, reads_as, reachable, constructs, through, type_of, one_child, last_child}, Values.{literal_says, this_form, defines, assigns, old_value}, Fields.{own_field, is_this, lacks_fields, field_type, old_type, own_old, own_writes}, Calls.{argument_goes, is_function, is_behaviour, argument_sendable, lends, recovered_result, has_string}, Operators.{is_arithmetic, is_comparison, is_equality, is_add, is_xor, both_read_as, comparable, meet_masks}, Control.{without_items, joined, is_condition, recovered, starts_method, result_ok}, Rules.said_by}
 use Rattle.pc_valid.specs.Words.{Ty, Masks, before}
 
 -- ---- parts
@@ -159,13 +159,13 @@ abbrev pub new_says : CoreData → Ann → Node → ℕ → Masks → Option Sai
 new_says core ann x k m = do
   f ← slice_get core.methods k
   n ← through ann x.children m
-  if arguments_go core ann x.children f.params && mark_fits x.mark f then Some (says_of (Some f.result) n) else None
+  if arguments_go core ann x.children f.params then Some (says_of (Some f.result) n) else None
 
 abbrev pub spawn_says : CoreData → Ann → Node → ℕ → Masks → Option Said
 spawn_says core ann x k m = do
   f ← slice_get core.methods k
   n ← through ann x.children m
-  if arguments_go core ann x.children f.params && mark_fits x.mark f then Some (says_of (Some (f.entity, form.Tag)) n) else None
+  if arguments_go core ann x.children f.params then Some (says_of (Some (f.entity, form.Tag)) n) else None
 
 abbrev pub arguments : List ℕ → List ℕ
 arguments cs = take (length cs - 1) cs
@@ -185,7 +185,7 @@ call_says core ann x name m = do
   i ← called core ann x name
   f ← slice_get core.methods i.1
   n ← through ann x.children m
-  if calls core ann x i.0 f && mark_fits x.mark f then Some (says_of (Some f.result) n) else None
+  if calls core ann x i.0 f then Some (says_of (Some f.result) n) else None
 
 abbrev pub arguments_sendable : Ann → List ℕ → List ParamInfo → Bool
 arguments_sendable ann [] [] = true
@@ -202,7 +202,7 @@ callrecover_says core ann x name m = do
   i ← called core ann x name
   f ← slice_get core.methods i.1
   n ← through ann x.children m
-  if recovers core ann x i.0 f && mark_fits x.mark f then Some (says_of (recovered_result f.result) n) else None
+  if recovers core ann x i.0 f then Some (says_of (recovered_result f.result) n) else None
 
 abbrev pub sends : CoreData → Ann → Node → Method → Bool
 sends core ann x f = is_behaviour f.kind && arguments_go core ann (arguments x.children) f.params
@@ -212,7 +212,7 @@ send_says core ann x name m = do
   i ← called core ann x name
   f ← slice_get core.methods i.1
   n ← through ann x.children m
-  if sends core ann x f && mark_fits x.mark f then Some (says_of (Some (0, form.Val)) n) else None
+  if sends core ann x f then Some (says_of (Some (0, form.Val)) n) else None
 
 abbrev pub builtin_says : CoreData → Ann → Node → ℕ → Masks → Option Said
 builtin_says core ann x name m = do
@@ -220,7 +220,7 @@ builtin_says core ann x name m = do
   v ← type_of ann c
   text ← slice_get core.names name
   n ← through ann x.children m
-  if has_string text v && no_question x.mark then Some (says_of (Some (3, form.Val)) n) else None
+  if has_string text v then Some (says_of (Some (3, form.Val)) n) else None
 
 -- ---- operators
 
@@ -285,8 +285,7 @@ seq_says core ann x m = do
   c ← last_child x.children
   t ← slice_get ann.notes c
   n ← through ann x.children m
-  ns ← notes_of ann.notes x.children
-  if all_but_last_end ns then Some (says_of t.ty (seq_live core x.children t n.0, n.1)) else None
+  Some (says_of t.ty (without_items core x.children n.0, n.1))
 
 abbrev pub branch_masks : Ann → ℕ × ℕ × ℕ → Masks → Option Masks
 branch_masks ann c m = do
@@ -295,24 +294,30 @@ branch_masks ann c m = do
   b ← through ann (c.2 ∷ []) n
   Some (meet_masks a b)
 
-abbrev pub branch_notes : Ann → ℕ × ℕ × ℕ → Option (Note × Note)
-branch_notes ann c = do
+abbrev pub branch_types : Ann → ℕ × ℕ × ℕ → Option (Option Ty × Option Ty)
+branch_types ann c = do
   a ← slice_get ann.notes c.1
   b ← slice_get ann.notes c.2
-  Some (a, b)
+  Some (a.ty, b.ty)
 
 abbrev pub if_says : CoreData → Ann → Node → Masks → Option Said
 if_says core ann x m = do
   c ← three_children x.children
   n ← branch_masks ann c m
-  ts ← branch_notes ann c
-  if is_condition (type_of ann c.0) then Some (says_of (joined_ends core ts.0 ts.1) n) else None
+  ts ← branch_types ann c
+  if is_condition (type_of ann c.0) then Some (says_of (joined core ts.0 ts.1) n) else None
 
--- The rules of loops, of `return` and of `try` are taken apart by the notes of the children.
-abbrev pub by_notes : Ann → Node → (List Note → Option Said) → Option Said
-by_notes ann x says = do
-  ns ← notes_of ann.notes x.children
-  says ns
+abbrev pub loop_masks : Ann → ℕ × ℕ → Masks → Option Masks
+loop_masks ann c m = do
+  n ← through ann (c.0 ∷ []) m
+  k ← through ann (c.1 ∷ []) n
+  if within m.0 k.0 && same k.1 m.1 then Some n else None
+
+abbrev pub while_says : Ann → Node → Masks → Option Said
+while_says ann x m = do
+  c ← two_children x.children
+  n ← loop_masks ann c m
+  if is_condition (type_of ann c.0) then Some (says_of (Some (0, form.Val)) n) else None
 
 abbrev pub recover_says : Ann → Node → Option Cap → Masks → Option Said
 recover_says ann x k m = do
@@ -328,7 +333,7 @@ body_says core ann x m = do
   c ← one_child x.children
   t ← slice_get ann.notes c
   n ← through ann x.children m
-  if starts_method core f m && (gives_ok core f t && exits_ok f t) then Some (says_of None n) else None
+  if starts_method core f m && result_ok core f.kind f.result t.ty then Some (says_of None n) else None
 
 -- ---- every rule
 
@@ -364,13 +369,7 @@ says core ann x m rule.Lazy node.Or = lazy_says ann x m
 says core ann x m rule.Identity (node.Same v) = identity_says ann x m
 says core ann x m rule.Seq node.Seq = seq_says core ann x m
 says core ann x m rule.If node.If = if_says core ann x m
-says core ann x m rule.While node.While = by_notes ann x (λ ns. while_says ns m)
-says core ann x m rule.Repeat node.Repeat = by_notes ann x (λ ns. repeat_says ns m)
-says core ann x m rule.Return node.Return = by_notes ann x (λ ns. return_says core ns x m)
-says core ann x m rule.Break node.Break = jump_says
-says core ann x m rule.Continue node.Continue = jump_says
-says core ann x m rule.Error node.Error = jump_says
-says core ann x m rule.Try (node.Try strict) = by_notes ann x (λ ns. try_says core ns strict m)
+says core ann x m rule.While node.While = while_says ann x m
 says core ann x m rule.Recover (node.Recover k) = recover_says ann x k m
 says core ann x m rule.Body node.Body = body_says core ann x m
 says core ann x m r k = None

@@ -1,5 +1,5 @@
 -- The example, computed.
-use Rattle.std.specs.Prelude.{◌≡◌, ℕ, Bool, true, false, List, [], ◌∷◌, Option, Some, None, slice_get, refl}
+use Rattle.std.specs.Prelude.{◌≡◌, ℕ, Bool, true, false, [], ◌∷◌, Option, Some, None, slice_get, refl}
 use Rattle.std.proofs.{Common.{ap, sym, subst, ◌∙◌, arith}, lemmas.Option.{same_Some, none-some}}
 use Rattle.pc_caps.specs.declared.capability.Form.{Form}
 use Rattle.pc_caps.specs.declared.capability.Form.TheVariants as form
@@ -7,19 +7,11 @@ use Rattle.pc_core.specs.declared.nodes.Node.{Node}
 use Rattle.pc_core.specs.declared.nodes.NodeKind.TheVariants as node
 use Rattle.pc_ann.specs.{declared.annotation.Note.Note, declared.annotation.Rule.Rule}
 use Rattle.pc_ann.specs.declared.annotation.Rule.TheVariants as rule
-use Rattle.pc_valid.specs.Exits.{Leaves}
-use Rattle.pc_rules.specs.{declared.said.Said.Said, Parts.notes_of, Rules.{IsSaid, IsLeft}, Example.{four_slots, derivation, at, node_of, noted, EachMeets, MeetsNone, WrongNotes}}
+use Rattle.pc_rules.specs.{declared.said.Said.Said, Rules.IsSaid, Example.{four_slots, derivation, at, node_of, noted, EachMeets, MeetsNone, WrongNotes}}
 use Rattle.pc_base.proofs.Bools.{true_false}
 
-left_so : (x : Node) (t : Note) (ms : List Note) → notes_of derivation.notes x.children ≡ Some ms → Leaves four_slots t ms x → IsLeft four_slots derivation x t
-left_so x t ms e l ns g = subst (λ (us : List Note). Leaves four_slots t us x) (same_Some ms ns (sym e ∙ g)) l
-
 pub each_meets : EachMeets
-each_meets =
-    ((_, _, refl, refl, refl, left_so _ _ _ refl (record { ends = refl; breaks = refl; continues = refl; errors = refl })), (_, _, refl, refl, refl, left_so _ _ _ refl (record { ends = refl; breaks = refl; continues = refl; errors = refl })),
-    (_, _, refl, refl, refl, left_so _ _ _ refl (record { ends = refl; breaks = refl; continues = refl; errors = refl })), (_, _, refl, refl, refl, left_so _ _ _ refl (record { ends = refl; breaks = refl; continues = refl; errors = refl })),
-    (_, _, refl, refl, refl, left_so _ _ _ refl (record { ends = refl; breaks = refl; continues = refl; errors = refl })), (_, _, refl, refl, refl, left_so _ _ _ refl (record { ends = refl; breaks = refl; continues = refl; errors = refl })),
-    (_, _, refl, refl, refl, left_so _ _ _ refl (record { ends = refl; breaks = refl; continues = refl; errors = refl })))
+each_meets = ((_, _, refl, refl, refl), (_, _, refl, refl, refl), (_, _, refl, refl, refl), (_, _, refl, refl, refl), (_, _, refl, refl, refl), (_, _, refl, refl, refl), (_, _, refl, refl, refl))
 
 -- A type is one of form `ref`.
 abbrev says_ref : Option (ℕ × Form) → Bool

@@ -1,15 +1,14 @@
 -- Derivations, and what shows that there is none: by the records, and as computed.
-use Rattle.std.specs.Prelude.{◌≡◌, ◌↔◌, Bool, IsTrue, ℕ, ◌+◌, List, [], ◌∷◌, length, take, Option, Some, None, slice_get, refl}
+use Rattle.std.specs.Prelude.{◌≡◌, ◌↔◌, Bool, IsTrue, ℕ, ◌+◌, List, [], ◌∷◌, length, Option, Some, None, slice_get, refl}
 use Rattle.std.proofs.{Common.{sym, subst, ◌∙◌}, lemmas.Option.{same_Some, none-some}}
 use Rattle.pc_core.specs.{declared.declarations.Method.Method, declared.nodes.Node.Node, CoreData.CoreData, Formed.Formed}
 use Rattle.pc_base.proofs.{Options.{bind_some, bind_is}, Bools.no_both}
 use Rattle.pc_masks.specs.{declared.mask.Mask.Mask, Masks.first}
 use Rattle.pc_ann.specs.{declared.annotation.Note.Note, declared.annotation.Rule.Rule, declared.annotation.Ann.Ann}
-use Rattle.pc_core.specs.declared.kinds.Exit.TheVariants as exit
-use Rattle.pc_rules.specs.{declared.said.Said.Said, Parts.{notes_of, full}, Control.start_set, Rules.{rule_says, said_by, says, without_exits, noted, IsSaid, IsLeft, NoteIsSaid}, Checks.{FillsFields, Checks, StartsFrom, GoesWell, SaysNothing, StaysUnset}, Statements.{MeetsTheSameRules, SameAreValid, SameHaveNoRule, SameAreUnset}}
+use Rattle.pc_rules.specs.{declared.said.Said.Said, Parts.{notes_of, full}, Control.start_set, Rules.{rule_says, said_by, says, IsSaid, NoteIsSaid}, Checks.{FillsFields, Checks, StartsFrom, GoesWell, SaysNothing, StaysUnset}, Statements.{MeetsTheSameRules, SameAreValid, SameHaveNoRule, SameAreUnset}}
 use Rattle.pc_rules.specs.Checks as starts
-use Rattle.pc_valid.specs.{Words.{Slots, Masks, before}, Exits.Leaves, Valid.{Means, AreNotes, Meets, MeetsRule, SetsFields, Valid}, NoRule.{Holds, Reaches, body, with_parent, after_others, MeetsReached, NoRule, Unset}}
-use Rattle.pc_rules.proofs.{Agreeing.exit_same, RecordWords.{all_set_iff, constructs_iff, starts_to, to_starts}, Records.{not_so, rules_say_what_is_meant}}
+use Rattle.pc_valid.specs.{Words.{Slots, Masks, before}, Valid.{Means, AreNotes, Meets, MeetsRule, SetsFields, Valid}, NoRule.{Holds, Reaches, body, first_child, else_branch, next_child, MeetsReached, NoRule, Unset}}
+use Rattle.pc_rules.proofs.{RecordWords.{else_to, to_else, all_set_iff, constructs_iff, starts_to, to_starts}, Records.{not_so, rules_say_what_is_meant}}
 
 pub are_notes : (notes : List Note) (cs : List ℕ) (ns : List Note) → notes_of notes cs ≡ Some ns → AreNotes notes cs ns
 are_notes notes [] [] e = tt
@@ -27,14 +26,10 @@ notes_are notes (c ∷ cs) (t ∷ ts) a =
     bind_is (slice_get notes c) _ t a.0 ∙ bind_is (notes_of notes cs) (λ (more : List Note). Some (t ∷ more)) ts (notes_are notes cs ts a.1)
 
 module _ (core : CoreData) (formed : Formed core) where
-  pub meets_to : (slots : Slots) (notes : List Note) (x : Node) (own : Note) → IsSaid core (record { slots = slots; notes = notes }) x own → IsLeft core (record { slots = slots; notes = notes }) x own → Meets core slots notes x own
-  meets_to slots notes x own h l =
+  pub meets_to : (slots : Slots) (notes : List Note) (x : Node) (own : Note) → IsSaid core (record { slots = slots; notes = notes }) x own → Meets core slots notes x own
+  meets_to slots notes x own h =
       let n = bind_some (notes_of notes x.children) (λ ns. rule_says core slots ns x (before own) own.rule x.kind) (said_by own) h in
-      (n.0, are_notes notes x.children n.0 n.1, (rules_say_what_is_meant core formed slots own n.0 x own.rule x.kind).0 n.2, l n.0 n.1)
-
-  -- It states how it is left, by the notes of its children, which are the only ones.
-  pub to_left : (slots : Slots) (notes : List Note) (x : Node) (own : Note) → Meets core slots notes x own → IsLeft core (record { slots = slots; notes = notes }) x own
-  to_left slots notes x own m ns e = subst (λ (ts : List Note). Leaves core own ts x) (same_Some m.0 ns (sym (notes_are notes x.children m.0 m.1) ∙ e)) m.3
+      (n.0, are_notes notes x.children n.0 n.1, (rules_say_what_is_meant core formed slots own n.0 x own.rule x.kind).0 n.2)
 
   pub to_meets : (slots : Slots) (notes : List Note) (x : Node) (own : Note) → Meets core slots notes x own → IsSaid core (record { slots = slots; notes = notes }) x own
   to_meets slots notes x own m =
@@ -42,10 +37,10 @@ module _ (core : CoreData) (formed : Formed core) where
       ∙ (rules_say_what_is_meant core formed slots own m.0 x own.rule x.kind).1 m.2
 
   pub rule_to : (ann : Ann) (n : ℕ) → NoteIsSaid core ann n → MeetsRule core ann n
-  rule_to ann n m = (m.0, m.1, m.2, m.3, meets_to ann.slots ann.notes m.0 m.1 m.4 m.5)
+  rule_to ann n m = (m.0, m.1, m.2, m.3, meets_to ann.slots ann.notes m.0 m.1 m.4)
 
   pub to_rule : (ann : Ann) (n : ℕ) → MeetsRule core ann n → NoteIsSaid core ann n
-  to_rule ann n m = (m.0, m.1, m.2, m.3, to_meets ann.slots ann.notes m.0 m.1 m.4, to_left ann.slots ann.notes m.0 m.1 m.4)
+  to_rule ann n m = (m.0, m.1, m.2, m.3, to_meets ann.slots ann.notes m.0 m.1 m.4)
 
   pub sets_to : (ann : Ann) (x : Method) → FillsFields core ann x → SetsFields core ann x
   sets_to ann x s k b t g h = (all_set_iff core x.entity t.set_after formed).0 (s ((constructs_iff x.kind).1 k) b t g h)
@@ -65,20 +60,22 @@ module _ (core : CoreData) (formed : Formed core) where
 
   pub reaches_to : (ann : Ann) (n : ℕ) (m : Masks) → StartsFrom core ann n m → Reaches core ann n m
   reaches_to ann n m (starts.body x f a b c) = body x f a b c (starts_to core f (start_set core f) refl)
-  reaches_to ann n m (starts.with_parent p i x ns a b d e r) = with_parent p i x ns a b (are_notes ann.notes (take i x.children) ns d) e (reaches_to ann p m r)
-  reaches_to ann n m (starts.after_others p i x ns a b d e) = after_others p i x ns a b (are_notes ann.notes (take i x.children) ns d) e
+  reaches_to ann n m (starts.first_child p x a b r) = first_child p x a b (reaches_to ann p m r)
+  reaches_to ann n m (starts.else_branch p c x t a b d e g) = else_branch p c x t a b d e g
+  reaches_to ann n m (starts.next_child p c i x t a b d e g) = next_child p c i x t a (else_to x.kind i b) d e g
 
   pub to_reaches : (ann : Ann) (n : ℕ) (m : Masks) → Reaches core ann n m → StartsFrom core ann n m
   to_reaches ann n m (body {set = s} x f a b c h) =
       subst (λ (k : Mask). StartsFrom core ann n (first (1 + length f.params), k)) (sym (to_starts core x.method f s formed c h)) (starts.body x f a b c)
-  to_reaches ann n m (with_parent p i x ns a b d e r) = starts.with_parent p i x ns a b (notes_are ann.notes (take i x.children) ns d) e (to_reaches ann p m r)
-  to_reaches ann n m (after_others p i x ns a b d e) = starts.after_others p i x ns a b (notes_are ann.notes (take i x.children) ns d) e
+  to_reaches ann n m (first_child p x a b r) = starts.first_child p x a b (to_reaches ann p m r)
+  to_reaches ann n m (else_branch p c x t a b d e g) = starts.else_branch p c x t a b d e g
+  to_reaches ann n m (next_child p c i x t a b d e g) = starts.next_child p c i x t a (to_else x.kind i b) d e g
 
   pub reached_to : (ann : Ann) (n : ℕ) → GoesWell core ann n → MeetsReached core ann n
-  reached_to ann n m = (m.0, m.1, m.2, m.3, meets_to ann.slots ann.notes m.0 m.1 m.4 m.5, reaches_to ann n (before m.1) m.6)
+  reached_to ann n m = (m.0, m.1, m.2, m.3, meets_to ann.slots ann.notes m.0 m.1 m.4, reaches_to ann n (before m.1) m.5)
 
   pub to_reached : (ann : Ann) (n : ℕ) → MeetsReached core ann n → GoesWell core ann n
-  to_reached ann n m = (m.0, m.1, m.2, m.3, to_meets ann.slots ann.notes m.0 m.1 m.4, to_left ann.slots ann.notes m.0 m.1 m.4, to_reaches ann n (before m.1) m.5)
+  to_reached ann n m = (m.0, m.1, m.2, m.3, to_meets ann.slots ann.notes m.0 m.1 m.4, to_reaches ann n (before m.1) m.5)
 
   -- ---- that no rule holds
 
@@ -99,25 +96,14 @@ module _ (core : CoreData) (formed : Formed core) where
             none-some (said_by own) (sym (r.none own.rule slots d) ∙ met);
       }
 
-  -- The note that a conclusion gives states how the node is left.
-  noted_left : (slots : Slots) (notes : List Note) (x : Node) (ns : List Note) (r : Rule) (m : Masks) (s : Said) → notes_of notes x.children ≡ Some ns → IsLeft core (record { slots = slots; notes = notes }) x (noted core x ns r m s)
-  noted_left slots notes x ns r m s e ts g =
-      let own = noted core x ns r m s in
-      let base = without_exits r m s in
-      subst (λ (us : List Note). Leaves core own us x) (same_Some ns ts (sym e ∙ g))
-      (record {
-        ends = refl;
-        breaks = exit_same core base own ns x exit.Break refl refl;
-        continues = exit_same core base own ns x exit.Continue refl refl;
-        errors = exit_same core base own ns x exit.Error refl refl;
-      })
+  -- A note that states the conclusion of a rule.
+  abbrev noted : Rule → Masks → Said → Note
+  noted r m s = record { rule = r; ty = s.ty; live_before = m.0; set_before = m.1; live_after = s.live; set_after = s.set }
 
   pub silent : (ann : Ann) (slots : Slots) (x : Node) (m : Masks) (r : Rule) (o : Option Said) → ((own : Note) → before own ≡ m → Meets core slots ann.notes x own → ⊥)
       → says core (record { slots = slots; notes = ann.notes }) x m r x.kind ≡ o → says core (record { slots = slots; notes = ann.notes }) x m r x.kind ≡ None
   silent ann slots x m r None h e = e
-  silent ann slots x m r (Some s) h e =
-      let n = bind_some (notes_of ann.notes x.children) (λ ns. rule_says core slots ns x m r x.kind) s e in
-      absurd (h (noted core x n.0 r m s) refl (meets_to slots ann.notes x (noted core x n.0 r m s) e (noted_left slots ann.notes x n.0 r m s n.1)))
+  silent ann slots x m r (Some s) h e = absurd (h (noted r m s) refl (meets_to slots ann.notes x (noted r m s) e))
 
   abbrev pub to_no_rule : (ann : Ann) (n : ℕ) → NoRule core ann n → SaysNothing core ann n
   to_no_rule ann n r =
@@ -188,17 +174,17 @@ same_are_unset core formed ann m = (unset_to core formed ann m, to_unset core fo
 pub holds_meets : (core : CoreData) (ann : Ann) (n : ℕ) (x : Node) (own : Note) (ns : List Note) → slice_get core.nodes n ≡ Some x → slice_get ann.notes n ≡ Some own
     → notes_of ann.notes x.children ≡ Some ns → Holds core ann.slots own ns n ↔ MeetsRule core ann n
 holds_meets core ann n x own ns g h e = (
-  λ r. let k = subst (λ (y : Node). Means core ann.slots own ns y own.rule y.kind × Leaves core own ns y) (same_Some r.0 x (sym r.1 ∙ g)) (r.2, r.3) in (x, own, g, h, (ns, are_notes ann.notes x.children ns e, k.0, k.1)),
+  λ r. (x, own, g, h, (ns, are_notes ann.notes x.children ns e, subst (λ (y : Node). Means core ann.slots own ns y own.rule y.kind) (same_Some r.0 x (sym r.1 ∙ g)) r.2)),
   λ r. let m = subst (λ (t : Note). Meets core ann.slots ann.notes x t) (same_Some r.1 own (sym r.3 ∙ h)) (subst (λ (y : Node). Meets core ann.slots ann.notes y r.1) (same_Some r.0 x (sym r.2 ∙ g)) r.4) in
-      let k = subst (λ (ts : List Note). Means core ann.slots own ts x own.rule x.kind × Leaves core own ts x) (same_Some m.0 ns (sym (notes_are ann.notes x.children m.0 m.1) ∙ e)) (m.2, m.3) in (x, g, k.0, k.1),
+      (x, g, subst (λ (ts : List Note). Means core ann.slots own ts x own.rule x.kind) (same_Some m.0 ns (sym (notes_are ann.notes x.children m.0 m.1) ∙ e)) m.2),
 )
 
--- A test of what a rule says of a note, and of how its node is left, decides whether the note meets the rule.
+-- A test of what a rule says of a note decides whether the note meets the rule.
 pub holds_by : (core : CoreData) → Formed core → (slots : Slots) (own : Note) (ns : List Note) (n : ℕ) (x : Node) (b : Bool) → slice_get core.nodes n ≡ Some x
-    → (IsTrue b) ↔ ((rule_says core slots ns x (before own) own.rule x.kind ≡ Some (said_by own)) × Leaves core own ns x) → (IsTrue b) ↔ Holds core slots own ns n
+    → (IsTrue b) ↔ (rule_says core slots ns x (before own) own.rule x.kind ≡ Some (said_by own)) → (IsTrue b) ↔ Holds core slots own ns n
 holds_by core formed slots own ns n x b g d =
     let m = rules_say_what_is_meant core formed slots own ns x own.rule x.kind in
-    (λ u. let k = d.0 u in (x, g, m.0 k.0, k.1), λ h. let k = subst (λ (y : Node). Means core slots own ns y own.rule y.kind × Leaves core own ns y) (same_Some h.0 x (sym h.1 ∙ g)) (h.2, h.3) in d.1 (m.1 k.0, k.1))
+    (λ u. (x, g, m.0 (d.0 u)), λ h. d.1 (m.1 (subst (λ (y : Node). Means core slots own ns y own.rule y.kind) (same_Some h.0 x (sym h.1 ∙ g)) h.2)))
 
 pub met_by : (core : CoreData) → Formed core → (ann : Ann) (n : ℕ) (b : Bool) → (IsTrue b) ↔ (NoteIsSaid core ann n) → (IsTrue b) ↔ MeetsRule core ann n
 met_by core formed ann n b d = let m = meets_the_same_rules core formed ann n in (λ u. m.0 (d.0 u), λ h. d.1 (m.1 h))

@@ -6,8 +6,8 @@ use Rattle.pc_core.specs.{declared.declarations.ParamInfo.ParamInfo, CoreData.Co
 use Rattle.pc_base.specs.Lists.{◌>>=◌}
 use Rattle.pc_masks.specs.declared.mask.Mask.{Mask}
 use Rattle.pc_ann.specs.declared.annotation.Note.{Note}
-use Rattle.pc_rules.specs.{Parts.{starts, through_notes}, Calls.{argument_goes, argument_sendable, arguments_go, arguments_sendable}, Children.{is_there, each_has, goes_at, goes_to_param, sendable_at, sendable_to_param}}
-use Rattle.pc_valid.specs.{Words.{Masks, masks_after}, Exits.{without_item, without_items}}
+use Rattle.pc_rules.specs.{Parts.{starts, through_notes}, Calls.{argument_goes, argument_sendable, arguments_go, arguments_sendable}, Children.{is_there, each_has, goes_at, goes_to_param, sendable_at, sendable_to_param}, Control.{without_item, without_items}}
+use Rattle.pc_valid.specs.Words.{Masks, masks_after}
 use Rattle.pc_rules.proofs.Gathered.{note_within}
 
 drop_suc : {A : Type 0} → (ts : List A) (i : ℕ) (t : A) → slice_get ts i ≡ Some t → drop i ts ≡ t ∷ drop (suc i) ts

@@ -3,12 +3,11 @@ use Rattle.std.specs.Prelude.{◌≡◌, ◌≢◌, ◌⊎◌, ◌↔◌, ℕ, z
 use Rattle.std.proofs.{Common.{ap, sym, subst, ◌∙◌}, lemmas.Option.{same_Some, none-some}}
 use Rattle.pc_core.specs.{declared.nodes.Node.Node, declared.nodes.NodeKind.NodeKind, CoreData.CoreData}
 use Rattle.pc_core.specs.declared.nodes.NodeKind.TheVariants as node
-use Rattle.pc_base.proofs.Options.{bind_some, kept}
+use Rattle.pc_base.proofs.Options.{bind_some}
 use Rattle.pc_masks.specs.{declared.mask.Mask.Mask, Masks.{IsInMask, with_number}, MaskLaws.{without_number_bits, with_number_bits}}
-use Rattle.pc_ann.specs.declared.annotation.Note.{Note}
 use Rattle.pc_ann.specs.declared.annotation.Rule.TheVariants as rule
-use Rattle.pc_rules.specs.{declared.said.Said.Said, Parts.{says_of, through, notes_of, one_child, type_of, last_child}, Values.defines, Control.{all_but_last_end, seq_live}, Rules.{says, said_by}, Statements.{RulesDetermine, ConsumeTakesOut, DefinePutsIn, SeqTakesOut}}
-use Rattle.pc_valid.specs.{Words.{Masks, before, Defines}, Exits.{without_definition, without_item, without_items}}
+use Rattle.pc_rules.specs.{declared.said.Said.Said, Parts.{through, one_child, type_of, last_child}, Values.defines, Control.{without_definition, without_item, without_items}, Rules.{says, said_by}, Statements.{RulesDetermine, ConsumeTakesOut, DefinePutsIn, SeqTakesOut}}
+use Rattle.pc_valid.specs.Words.{Masks, before, Defines}
 use Rattle.pc_rules.proofs.{ByNumber.{slot_of, used, defined}, Bridge.by_number}
 
 pub rules_determine : RulesDetermine
@@ -24,12 +23,17 @@ consume_takes_out core ann x s m r e =
           (ap (λ (q : Said). q.set) same),
     )
 
+-- The result under a condition.
+kept : {A : Type 0} → (b : Bool) (o : Option A) (y : A) → cond b o None ≡ Some y → o ≡ Some y
+kept true o y e = e
+kept false o y e = absurd (none-some y e)
+
 pub define_puts_in : DefinePutsIn
 define_puts_in core ann x s m n r e t =
     let a = bind_some (one_child x.children) _ r (by_number core ann x m rule.Define (node.Define s) r e) in
     let b = bind_some (type_of ann a.0) _ r a.2 in
     let c = bind_some (slot_of core ann x.method s) _ r b.2 in
-    let d = (kept (defines core c.0 b.0) (defined ann x s m) r c.2).1 in
+    let d = kept (defines core c.0 b.0) (defined ann x s m) r c.2 in
     let f = bind_some (through ann x.children m) _ r d in
     let same = same_Some _ r f.2 in
     let at = same_Some f.0 n (sym f.1 ∙ t) in (
@@ -77,17 +81,12 @@ items_bits core (c ∷ cs) l i =
     )
 
 pub seq_takes_out : SeqTakesOut
-seq_takes_out core ann x m n r c u e t is at ends =
+seq_takes_out core ann x m n r e t =
     let a = bind_some (last_child x.children) _ r (by_number core ann x m rule.Seq node.Seq r e) in
     let b = bind_some (slice_get ann.notes a.0) _ r a.2 in
     let f = bind_some (through ann x.children m) _ r b.2 in
-    let h = bind_some (notes_of ann.notes x.children) _ r f.2 in
-    let k = kept (all_but_last_end h.0) (Some (says_of b.0.ty (seq_live core x.children b.0 f.0.0, f.0.1))) r h.2 in
-    let note : b.0 ≡ u = same_Some b.0 u (sym b.1 ∙ ap (slice_get ann.notes) (same_Some a.0 c (sym a.1 ∙ is)) ∙ at) in
-    let live : seq_live core x.children b.0 f.0.0 ≡ without_items core x.children f.0.0 = ap (λ (v : Bool). cond v (without_items core x.children f.0.0) f.0.0) (ap (λ (v : Note). v.ends) note ∙ ends) in
-    let same = same_Some _ r k.1 in
-    let after : f.0 ≡ n = same_Some f.0 n (sym f.1 ∙ t) in (
-      λ i. subst (λ (q : Said). (IsInMask q.live i) ↔ (IsInMask n.0 i × ((Defines core x.children i) → ⊥))) same
-          (subst (λ (l : Mask). (IsInMask l i) ↔ (IsInMask n.0 i × ((Defines core x.children i) → ⊥))) (sym live) (subst (λ (k : Masks). (IsInMask (without_items core x.children f.0.0) i) ↔ (IsInMask k.0 i × ((Defines core x.children i) → ⊥))) after (items_bits core x.children f.0.0 i))),
-      sym (ap (λ (q : Said). q.set) same) ∙ ap (λ (k : Masks). k.1) after,
+    let same = same_Some _ r f.2 in
+    let at = same_Some f.0 n (sym f.1 ∙ t) in (
+      λ i. subst (λ (q : Said). (IsInMask q.live i) ↔ (IsInMask n.0 i × ((Defines core x.children i) → ⊥))) same (subst (λ (k : Masks). (IsInMask (without_items core x.children f.0.0) i) ↔ (IsInMask k.0 i × ((Defines core x.children i) → ⊥))) at (items_bits core x.children f.0.0 i)),
+      sym (ap (λ (q : Said). q.set) same) ∙ ap (λ (k : Masks). k.1) at,
     )

@@ -19,5 +19,4 @@ pub mod MeantCalls
 pub mod RecordWords
 pub mod Records
 pub mod Derivations
-pub mod ChildStarts
 pub mod Unique

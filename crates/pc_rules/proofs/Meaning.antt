@@ -11,7 +11,7 @@ use Rattle.pc_core.specs.declared.nodes.SlotKind.TheVariants as slot_kind
 use Rattle.pc_core.specs.declared.nodes.NodeKind.TheVariants as node
 use Rattle.pc_ann.specs.declared.annotation.Note.{Note}
 use Rattle.pc_masks.specs.Masks.{IsInMask, with_number, without_number, within, first}
-use Rattle.pc_rules.specs.{Parts.{slot_of, goes_to, readable, lower, constructs, full}, Values.{defined_type, old_value}, Fields.{field_of, own_field, own_old}, Calls.{mark_fits, no_question, recovered_result}, Operators.{is_arithmetic, is_comparison, is_equality, is_add, is_xor, meet_masks}, Control.{all_but_last_end, seq_live, joined_ends, recovered, gives_ok, exits_ok, start_set}}
+use Rattle.pc_rules.specs.{Parts.{slot_of, goes_to, readable, lower, constructs, full}, Values.{defined_type, old_value}, Fields.{field_of, own_field, own_old}, Calls.recovered_result, Operators.{is_arithmetic, is_comparison, is_equality, is_add, is_xor, meet_masks}, Control.{without_items, joined, recovered, start_set}}
 use Rattle.pc_valid.specs.Words.{Ty, Masks, Slots, before, masks_after, place}
 
 -- ---- words
@@ -211,38 +211,34 @@ pub record PutOwn (core : CoreData) (own : Note) (ns : List Note) (x : Node) (na
 -- ---- calls
 
 -- Constructing an object of a class.
-pub record New (core : CoreData) (own : Note) (ns : List Note) (x : Node) (k : ℕ) : Type 0 where
+pub record New (core : CoreData) (own : Note) (ns : List Note) (k : ℕ) : Type 0 where
   pub called : Method
   pub is_called : slice_get core.methods k ≡ Some called
-  pub mark : mark_fits x.mark called ≡ true
   pub go : Go core ns called.params
   pub type : own.ty ≡ Some called.result
   pub masks : OneAfterOther ns (before own) (masks_after own)
 
 -- Constructing an actor.
-pub record Spawn (core : CoreData) (own : Note) (ns : List Note) (x : Node) (k : ℕ) : Type 0 where
+pub record Spawn (core : CoreData) (own : Note) (ns : List Note) (k : ℕ) : Type 0 where
   pub called : Method
   pub is_called : slice_get core.methods k ≡ Some called
-  pub mark : mark_fits x.mark called ≡ true
   pub go : Go core ns called.params
   pub type : own.ty ≡ Some (called.entity, form.Tag)
   pub masks : OneAfterOther ns (before own) (masks_after own)
 
 -- A call.
-pub record Call (core : CoreData) (own : Note) (ns : List Note) (x : Node) (name : ℕ) : Type 0 where
+pub record Call (core : CoreData) (own : Note) (ns : List Note) (name : ℕ) : Type 0 where
   pub call : Called core ns name
   pub function : call.called.kind ≡ method.Fun
-  pub mark : mark_fits x.mark call.called ≡ true
   pub go : Go core call.arguments call.called.params
   pub fit : fits call.to.1 call.called.receiver ≡ true
   pub type : own.ty ≡ Some call.called.result
   pub masks : OneAfterOther ns (before own) (masks_after own)
 
 -- A call whose receiver is lent to the method.
-pub record CallRecover (core : CoreData) (own : Note) (ns : List Note) (x : Node) (name : ℕ) : Type 0 where
+pub record CallRecover (core : CoreData) (own : Note) (ns : List Note) (name : ℕ) : Type 0 where
   pub call : Called core ns name
   pub function : call.called.kind ≡ method.Fun
-  pub mark : mark_fits x.mark call.called ≡ true
   pub go : Go core call.arguments call.called.params
   pub no_fit : fits call.to.1 call.called.receiver ≡ false
   pub isolated : (call.to.1 ≡ form.Iso) ⊎ (call.to.1 ≡ form.Trn)
@@ -252,20 +248,18 @@ pub record CallRecover (core : CoreData) (own : Note) (ns : List Note) (x : Node
   pub masks : OneAfterOther ns (before own) (masks_after own)
 
 -- A message.
-pub record Send (core : CoreData) (own : Note) (ns : List Note) (x : Node) (name : ℕ) : Type 0 where
+pub record Send (core : CoreData) (own : Note) (ns : List Note) (name : ℕ) : Type 0 where
   pub call : Called core ns name
   pub behaviour : call.called.kind ≡ method.Be
-  pub mark : mark_fits x.mark call.called ≡ true
   pub go : Go core call.arguments call.called.params
   pub type : own.ty ≡ Some (none_entity, form.Val)
   pub masks : OneAfterOther ns (before own) (masks_after own)
 
 -- The text of a number or of a truth value.
-pub record Builtin (core : CoreData) (own : Note) (ns : List Note) (x : Node) (name : ℕ) : Type 0 where
+pub record Builtin (core : CoreData) (own : Note) (ns : List Note) (name : ℕ) : Type 0 where
   pub child : Note
   pub children : ns ≡ child ∷ []
   pub is_string : slice_get core.names name ≡ Some (codes "string")
-  pub mark : no_question x.mark ≡ true
   pub reads : Reads u64_entity child.ty ⊎ Reads bool_entity child.ty
   pub type : own.ty ≡ Some (string_entity, form.Val)
   pub masks : OneAfterOther ns (before own) (masks_after own)
@@ -346,11 +340,10 @@ pub record Seq (core : CoreData) (own : Note) (ns : List Note) (x : Node) : Type
   pub front : List Note
   pub last : Note
   pub children : ns ≡ front ++ last ∷ []
-  pub all_end : all_but_last_end ns ≡ true
   pub type : own.ty ≡ last.ty
   pub after_children : Masks
   pub in_order : OneAfterOther ns (before own) after_children
-  pub masks : masks_after own ≡ (seq_live core x.children last after_children.0, after_children.1)
+  pub masks : masks_after own ≡ (without_items core x.children after_children.0, after_children.1)
 
 -- `if`.
 pub record If (core : CoreData) (own : Note) (ns : List Note) : Type 0 where
@@ -359,11 +352,24 @@ pub record If (core : CoreData) (own : Note) (ns : List Note) : Type 0 where
   pub no : Note
   pub children : ns ≡ condition ∷ yes ∷ no ∷ []
   pub reads : Reads bool_entity condition.ty
-  pub type : own.ty ≡ joined_ends core yes no
+  pub type : own.ty ≡ joined core yes.ty no.ty
   pub starts : before condition ≡ before own
   pub yes_starts : before yes ≡ masks_after condition
   pub no_starts : before no ≡ masks_after condition
   pub masks : masks_after own ≡ meet_masks (masks_after yes) (masks_after no)
+
+-- `while`.
+pub record While (own : Note) (ns : List Note) : Type 0 where
+  pub condition : Note
+  pub body : Note
+  pub children : ns ≡ condition ∷ body ∷ []
+  pub reads : Reads bool_entity condition.ty
+  pub type : own.ty ≡ Some (none_entity, form.Val)
+  pub starts : before condition ≡ before own
+  pub body_starts : before body ≡ masks_after condition
+  pub keeps : within own.live_before body.live_after ≡ true
+  pub same_set : body.set_after ≡ own.set_before
+  pub masks : masks_after own ≡ masks_after condition
 
 -- `recover`.
 pub record Recover (own : Note) (ns : List Note) (k : Option Cap) : Type 0 where
@@ -384,7 +390,6 @@ pub record Body (core : CoreData) (own : Note) (ns : List Note) (x : Node) : Typ
   pub children : ns ≡ child ∷ []
   pub live : own.live_before ≡ first (1 + length home.params)
   pub set : own.set_before ≡ start_set core home
-  pub gives : gives_ok core home child ≡ true
-  pub exits : exits_ok home child ≡ true
+  pub result : home.kind ≡ method.Fun → (v : Ty) × (child.ty ≡ Some v) × (lower core v home.result ≡ true)
   pub type : own.ty ≡ None
   pub masks : OneAfterOther ns (before own) (masks_after own)

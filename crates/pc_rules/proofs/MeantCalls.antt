@@ -11,9 +11,9 @@ use Rattle.pc_base.proofs.{Options.{bind_some, kept, bind_is}, Bools.false_true}
 use Rattle.pc_base.specs.Lists.{◌>>=◌}
 use Rattle.pc_ann.specs.declared.annotation.Note.{Note}
 use Rattle.pc_masks.specs.Masks.{same, within, first}
-use Rattle.pc_rules.specs.{Parts.{says_of, starts, reads_as, goes_to, through_notes, one_note, two_notes, three_notes, last_note, one_type, two_types}, Calls.{argument_goes, arguments_go, arguments, called, is_function, is_behaviour, calls, call_says, new_says, spawn_says, is_isolated, is_lent, argument_sendable, arguments_sendable, lends, recovers, recovered_result, callrecover_says, sends, send_says, same_text, has_text, has_string, mark_fits, no_question, builtin_says}, Operators.{is_arithmetic, is_comparison, is_equality, is_add, is_xor, both_read_as, comparable, value_says, arith_says, compare_says, equal_says, join_says, xor_says, meet_masks}, Control.{all_but_last_end, seq_live, seq_says, joined_ends, is_condition, branch_masks, if_says, recovered, recover_says, start_set, starts_method, gives_ok, exits_ok, body_says}, Rules.said_by}
+use Rattle.pc_rules.specs.{Parts.{says_of, starts, lower, reads_as, goes_to, through_notes, one_note, two_notes, three_notes, last_note, one_type, two_types}, Calls.{argument_goes, arguments_go, arguments, called, is_function, is_behaviour, calls, call_says, new_says, spawn_says, is_isolated, is_lent, argument_sendable, arguments_sendable, lends, recovers, recovered_result, callrecover_says, sends, send_says, same_text, has_text, has_string, builtin_says}, Operators.{is_arithmetic, is_comparison, is_equality, is_add, is_xor, both_read_as, comparable, value_says, arith_says, compare_says, equal_says, join_says, xor_says, meet_masks}, Control.{without_items, seq_says, joined, is_condition, branch_masks, if_says, loop_masks, while_says, recovered, recover_says, start_set, starts_method, gives_result, result_ok, body_says}, Rules.said_by}
 use Rattle.pc_valid.specs.Words.{Ty, before, masks_after}
-use Rattle.pc_rules.proofs.{Meaning.{OneAfterOther, Reads, BothRead, Go, Sendable, Called, New, Spawn, Call, CallRecover, Send, Builtin, Arith, Compare, Equal, Join, Xor, Seq, If, Recover, Body}, Threads.starts_so, Agreeing.same_mask, Meant.{through_means, means_through, said_parts, parts_said, is_false, is_starts, mask_same, one_is, two_are, three_are, one_typed, typed_one, reads_so, so_reads, ends, ended, ends_if, ended_if, ends_at, ended_at, tested_means, means_tested, both_read, read_both}}
+use Rattle.pc_rules.proofs.{Meaning.{OneAfterOther, Reads, BothRead, Go, Sendable, Called, New, Spawn, Call, CallRecover, Send, Builtin, Arith, Compare, Equal, Join, Xor, Seq, If, While, Recover, Body}, Threads.starts_so, Agreeing.same_mask, Meant.{said_parts, parts_said, is_false, is_starts, mask_same, one_is, two_are, three_are, one_typed, typed_one, reads_so, so_reads, ends, ended, ends_if, ended_if, ends_at, ended_at, tested_means, means_tested, both_read, read_both}}
 
 -- ---- arguments
 
@@ -111,29 +111,27 @@ text_self (a ∷ as') = and_from (nat_eq a a) (same_text as' as') (eq-eqb a a re
 -- ---- calls
 
 module _ (core : CoreData) (own : Note) (ns : List Note) where
-  pub new_means : (x : Node) (k : ℕ) → new_says core ns x k (before own) ≡ Some (said_by own) → New core own ns x k
-  new_means x k h =
+  pub new_means : (k : ℕ) → new_says core ns k (before own) ≡ Some (said_by own) → New core own ns k
+  new_means k h =
       let f = bind_some (slice_get core.methods k) _ (said_by own) h in
-      let p = ends_if own ns (arguments_go core ns f.0.params && mark_fits x.mark f.0) (Some f.0.result) f.2 in
-      let a = and_parts (arguments_go core ns f.0.params) (mark_fits x.mark f.0) p.0 in
-      record { called = f.0; is_called = f.1; mark = a.1; go = go_means core ns f.0.params a.0; type = p.1; masks = p.2 }
+      let p = ends_if own ns (arguments_go core ns f.0.params) (Some f.0.result) f.2 in
+      record { called = f.0; is_called = f.1; go = go_means core ns f.0.params p.0; type = p.1; masks = p.2 }
 
-  pub means_new : (x : Node) (k : ℕ) → New core own ns x k → new_says core ns x k (before own) ≡ Some (said_by own)
-  means_new x k r =
+  pub means_new : (k : ℕ) → New core own ns k → new_says core ns k (before own) ≡ Some (said_by own)
+  means_new k r =
       bind_is (slice_get core.methods k) _ r.called r.is_called
-      ∙ ended_if own ns (arguments_go core ns r.called.params && mark_fits x.mark r.called) (Some r.called.result) (and_from (arguments_go core ns r.called.params) (mark_fits x.mark r.called) (means_go core ns r.called.params r.go) r.mark) r.type r.masks
+      ∙ ended_if own ns (arguments_go core ns r.called.params) (Some r.called.result) (means_go core ns r.called.params r.go) r.type r.masks
 
-  pub spawn_means : (x : Node) (k : ℕ) → spawn_says core ns x k (before own) ≡ Some (said_by own) → Spawn core own ns x k
-  spawn_means x k h =
+  pub spawn_means : (k : ℕ) → spawn_says core ns k (before own) ≡ Some (said_by own) → Spawn core own ns k
+  spawn_means k h =
       let f = bind_some (slice_get core.methods k) _ (said_by own) h in
-      let p = ends_if own ns (arguments_go core ns f.0.params && mark_fits x.mark f.0) (Some (f.0.entity, form.Tag)) f.2 in
-      let a = and_parts (arguments_go core ns f.0.params) (mark_fits x.mark f.0) p.0 in
-      record { called = f.0; is_called = f.1; mark = a.1; go = go_means core ns f.0.params a.0; type = p.1; masks = p.2 }
+      let p = ends_if own ns (arguments_go core ns f.0.params) (Some (f.0.entity, form.Tag)) f.2 in
+      record { called = f.0; is_called = f.1; go = go_means core ns f.0.params p.0; type = p.1; masks = p.2 }
 
-  pub means_spawn : (x : Node) (k : ℕ) → Spawn core own ns x k → spawn_says core ns x k (before own) ≡ Some (said_by own)
-  means_spawn x k r =
+  pub means_spawn : (k : ℕ) → Spawn core own ns k → spawn_says core ns k (before own) ≡ Some (said_by own)
+  means_spawn k r =
       bind_is (slice_get core.methods k) _ r.called r.is_called
-      ∙ ended_if own ns (arguments_go core ns r.called.params && mark_fits x.mark r.called) (Some (r.called.entity, form.Tag)) (and_from (arguments_go core ns r.called.params) (mark_fits x.mark r.called) (means_go core ns r.called.params r.go) r.mark) r.type r.masks
+      ∙ ended_if own ns (arguments_go core ns r.called.params) (Some (r.called.entity, form.Tag)) (means_go core ns r.called.params r.go) r.type r.masks
 
   -- The receiver and the method of a call.
   called_means : (name : ℕ) (i : Ty × ℕ) (f : Method) → called core ns name ≡ Some i → slice_get core.methods i.1 ≡ Some f → (c : Called core ns name) × (c.called ≡ f) × (c.arguments ≡ arguments ns) × (c.to ≡ i.0)
@@ -170,43 +168,40 @@ module _ (core : CoreData) (own : Note) (ns : List Note) where
   of_go : (name : ℕ) (c : Called core ns name) → Go core c.arguments c.called.params → arguments_go core (arguments ns) c.called.params ≡ true
   of_go name c g = ap (λ ts. arguments_go core ts c.called.params) (means_called name c).1 ∙ means_go core c.arguments c.called.params g
 
-  pub call_means : (x : Node) (name : ℕ) → call_says core ns x name (before own) ≡ Some (said_by own) → Call core own ns x name
-  call_means x name h =
+  pub call_means : (name : ℕ) → call_says core ns name (before own) ≡ Some (said_by own) → Call core own ns name
+  call_means name h =
       let i = bind_some (called core ns name) _ (said_by own) h in
       let f = bind_some (slice_get core.methods i.0.1) _ (said_by own) i.2 in
-      let p = ends_if own ns (calls core ns i.0.0 f.0 && mark_fits x.mark f.0) (Some f.0.result) f.2 in
-      let z = and_parts (calls core ns i.0.0 f.0) (mark_fits x.mark f.0) p.0 in
+      let p = ends_if own ns (calls core ns i.0.0 f.0) (Some f.0.result) f.2 in
       let c = called_means name i.0 f.0 i.1 f.1 in
-      let a = and_parts (is_function f.0.kind) (arguments_go core (arguments ns) f.0.params && fits i.0.0.1 f.0.receiver) z.0 in
+      let a = and_parts (is_function f.0.kind) (arguments_go core (arguments ns) f.0.params && fits i.0.0.1 f.0.receiver) p.0 in
       let b = and_parts (arguments_go core (arguments ns) f.0.params) (fits i.0.0.1 f.0.receiver) a.1 in
       record {
         call = c.0;
         function = ap (λ (z : Method). z.kind) c.1 ∙ is_fun f.0.kind a.0;
-        mark = ap (mark_fits x.mark) c.1 ∙ z.1;
         go = go_of name f.0 c.0 c.1 c.2 b.0;
         fit = ap (λ (t : Ty). fits t.1 c.0.called.receiver) c.3 ∙ ap (λ (z : Method). fits i.0.0.1 z.receiver) c.1 ∙ b.1;
         type = p.1 ∙ ap (λ (z : Method). Some z.result) (sym c.1);
         masks = p.2;
       }
 
-  pub means_call : (x : Node) (name : ℕ) → Call core own ns x name → call_says core ns x name (before own) ≡ Some (said_by own)
-  means_call x name r =
+  pub means_call : (name : ℕ) → Call core own ns name → call_says core ns name (before own) ≡ Some (said_by own)
+  means_call name r =
       let f = r.call.called in
       let test : calls core ns r.call.to f ≡ true =
       and_from (is_function f.kind) (arguments_go core (arguments ns) f.params && fits r.call.to.1 f.receiver) (ap is_function r.function)
       (and_from (arguments_go core (arguments ns) f.params) (fits r.call.to.1 f.receiver) (of_go name r.call r.go) r.fit) in
       bind_is (called core ns name) _ (r.call.to, r.call.number) (means_called name r.call).0
       ∙ bind_is (slice_get core.methods r.call.number) _ f r.call.is_called
-      ∙ ended_if own ns (calls core ns r.call.to f && mark_fits x.mark f) (Some f.result) (and_from (calls core ns r.call.to f) (mark_fits x.mark f) test r.mark) r.type r.masks
+      ∙ ended_if own ns (calls core ns r.call.to f) (Some f.result) test r.type r.masks
 
-  pub callrecover_means : (x : Node) (name : ℕ) → callrecover_says core ns x name (before own) ≡ Some (said_by own) → CallRecover core own ns x name
-  callrecover_means x name h =
+  pub callrecover_means : (name : ℕ) → callrecover_says core ns name (before own) ≡ Some (said_by own) → CallRecover core own ns name
+  callrecover_means name h =
       let i = bind_some (called core ns name) _ (said_by own) h in
       let f = bind_some (slice_get core.methods i.0.1) _ (said_by own) i.2 in
-      let p = ends_if own ns (recovers core ns i.0.0 f.0 && mark_fits x.mark f.0) (recovered_result f.0.result) f.2 in
-      let z = and_parts (recovers core ns i.0.0 f.0) (mark_fits x.mark f.0) p.0 in
+      let p = ends_if own ns (recovers core ns i.0.0 f.0) (recovered_result f.0.result) f.2 in
       let c = called_means name i.0 f.0 i.1 f.1 in
-      let a = and_parts (is_function f.0.kind && arguments_go core (arguments ns) f.0.params) (lends i.0.0.1 f.0.receiver && arguments_sendable (arguments ns) f.0.params) z.0 in
+      let a = and_parts (is_function f.0.kind && arguments_go core (arguments ns) f.0.params) (lends i.0.0.1 f.0.receiver && arguments_sendable (arguments ns) f.0.params) p.0 in
       let b = and_parts (is_function f.0.kind) (arguments_go core (arguments ns) f.0.params) a.0 in
       let d = and_parts (lends i.0.0.1 f.0.receiver) (arguments_sendable (arguments ns) f.0.params) a.1 in
       let e = and_parts (not (fits i.0.0.1 f.0.receiver)) (is_isolated i.0.0.1 && is_lent f.0.receiver) d.0 in
@@ -214,7 +209,6 @@ module _ (core : CoreData) (own : Note) (ns : List Note) where
       record {
         call = c.0;
         function = ap (λ (z : Method). z.kind) c.1 ∙ is_fun f.0.kind b.0;
-        mark = ap (mark_fits x.mark) c.1 ∙ z.1;
         go = go_of name f.0 c.0 c.1 c.2 b.1;
         no_fit = ap (λ (t : Ty). fits t.1 c.0.called.receiver) c.3 ∙ ap (λ (z : Method). fits i.0.0.1 z.receiver) c.1 ∙ is_false (fits i.0.0.1 f.0.receiver) e.0;
         isolated = isolated_is c.0.to.1 (ap (λ (t : Ty). is_isolated t.1) c.3 ∙ g.0);
@@ -224,8 +218,8 @@ module _ (core : CoreData) (own : Note) (ns : List Note) where
         masks = p.2;
       }
 
-  pub means_callrecover : (x : Node) (name : ℕ) → CallRecover core own ns x name → callrecover_says core ns x name (before own) ≡ Some (said_by own)
-  means_callrecover x name r =
+  pub means_callrecover : (name : ℕ) → CallRecover core own ns name → callrecover_says core ns name (before own) ≡ Some (said_by own)
+  means_callrecover name r =
       let f = r.call.called in
       let o = r.call.to in
       let may : arguments_sendable (arguments ns) f.params ≡ true = ap (λ ts. arguments_sendable ts f.params) (means_called name r.call).1 ∙ means_sendable r.call.arguments f.params r.may_go in
@@ -238,39 +232,36 @@ module _ (core : CoreData) (own : Note) (ns : List Note) where
       (and_from (lends o.1 f.receiver) (arguments_sendable (arguments ns) f.params) lent may) in
       bind_is (called core ns name) _ (o, r.call.number) (means_called name r.call).0
       ∙ bind_is (slice_get core.methods r.call.number) _ f r.call.is_called
-      ∙ ended_if own ns (recovers core ns o f && mark_fits x.mark f) (recovered_result f.result) (and_from (recovers core ns o f) (mark_fits x.mark f) test r.mark) r.type r.masks
+      ∙ ended_if own ns (recovers core ns o f) (recovered_result f.result) test r.type r.masks
 
-  pub send_means : (x : Node) (name : ℕ) → send_says core ns x name (before own) ≡ Some (said_by own) → Send core own ns x name
-  send_means x name h =
+  pub send_means : (name : ℕ) → send_says core ns name (before own) ≡ Some (said_by own) → Send core own ns name
+  send_means name h =
       let i = bind_some (called core ns name) _ (said_by own) h in
       let f = bind_some (slice_get core.methods i.0.1) _ (said_by own) i.2 in
-      let p = ends_if own ns (sends core ns f.0 && mark_fits x.mark f.0) (Some (0, form.Val)) f.2 in
-      let z = and_parts (sends core ns f.0) (mark_fits x.mark f.0) p.0 in
+      let p = ends_if own ns (sends core ns f.0) (Some (0, form.Val)) f.2 in
       let c = called_means name i.0 f.0 i.1 f.1 in
-      let a = and_parts (is_behaviour f.0.kind) (arguments_go core (arguments ns) f.0.params) z.0 in
-      record { call = c.0; behaviour = ap (λ (z : Method). z.kind) c.1 ∙ is_be f.0.kind a.0; mark = ap (mark_fits x.mark) c.1 ∙ z.1; go = go_of name f.0 c.0 c.1 c.2 a.1; type = p.1; masks = p.2 }
+      let a = and_parts (is_behaviour f.0.kind) (arguments_go core (arguments ns) f.0.params) p.0 in
+      record { call = c.0; behaviour = ap (λ (z : Method). z.kind) c.1 ∙ is_be f.0.kind a.0; go = go_of name f.0 c.0 c.1 c.2 a.1; type = p.1; masks = p.2 }
 
-  pub means_send : (x : Node) (name : ℕ) → Send core own ns x name → send_says core ns x name (before own) ≡ Some (said_by own)
-  means_send x name r =
+  pub means_send : (name : ℕ) → Send core own ns name → send_says core ns name (before own) ≡ Some (said_by own)
+  means_send name r =
       let f = r.call.called in
       let test : sends core ns f ≡ true = and_from (is_behaviour f.kind) (arguments_go core (arguments ns) f.params) (ap is_behaviour r.behaviour) (of_go name r.call r.go) in
       bind_is (called core ns name) _ (r.call.to, r.call.number) (means_called name r.call).0
       ∙ bind_is (slice_get core.methods r.call.number) _ f r.call.is_called
-      ∙ ended_if own ns (sends core ns f && mark_fits x.mark f) (Some (0, form.Val)) (and_from (sends core ns f) (mark_fits x.mark f) test r.mark) r.type r.masks
+      ∙ ended_if own ns (sends core ns f) (Some (0, form.Val)) test r.type r.masks
 
-  pub builtin_means : (x : Node) (name : ℕ) → builtin_says core ns x name (before own) ≡ Some (said_by own) → Builtin core own ns x name
-  builtin_means x name h =
+  pub builtin_means : (name : ℕ) → builtin_says core ns name (before own) ≡ Some (said_by own) → Builtin core own ns name
+  builtin_means name h =
       let v = bind_some (one_type ns) _ (said_by own) h in
       let t = one_typed ns v.0 v.1 in
-      let y = bind_some (slice_get core.names name) _ (said_by own) v.2 in
-      let p = ends_if own ns (has_string y.0 v.0 && no_question x.mark) (Some (3, form.Val)) y.2 in
-      let z = and_parts (has_string y.0 v.0) (no_question x.mark) p.0 in
-      let a = and_parts (same_text y.0 (codes "string")) (has_text v.0) z.0 in
+      let x = bind_some (slice_get core.names name) _ (said_by own) v.2 in
+      let p = ends_if own ns (has_string x.0 v.0) (Some (3, form.Val)) x.2 in
+      let a = and_parts (same_text x.0 (codes "string")) (has_text v.0) p.0 in
       record {
         child = t.0;
         children = t.1;
-        is_string = y.1 ∙ ap Some (text_is y.0 (codes "string") a.0);
-        mark = z.1;
+        is_string = x.1 ∙ ap Some (text_is x.0 (codes "string") a.0);
         reads = elim (or_cases (reads_as 1 v.0) (reads_as 2 v.0) a.1) [ inl e ↦ inl (reads_so 1 t.0.ty v.0 t.2 e) | inr e ↦ inr (reads_so 2 t.0.ty v.0 t.2 e) ];
         type = p.1;
         masks = p.2;
@@ -282,30 +273,26 @@ module _ (core : CoreData) (own : Note) (ns : List Note) where
     | inr r ↦ (r.0, r.1, or_right (reads_as 1 r.0) (reads_as 2 r.0) (so_reads 2 o r))
   ]
 
-  pub means_builtin : (x : Node) (name : ℕ) → Builtin core own ns x name → builtin_says core ns x name (before own) ≡ Some (said_by own)
-  means_builtin x name r =
+  pub means_builtin : (name : ℕ) → Builtin core own ns name → builtin_says core ns name (before own) ≡ Some (said_by own)
+  means_builtin name r =
       let v = reads_any r.child.ty r.reads in
       let test : has_string (codes "string") v.0 ≡ true = and_from (same_text (codes "string") (codes "string")) (has_text v.0) (text_self (codes "string")) v.2 in
       bind_is (one_type ns) _ v.0 (typed_one ns r.child v.0 r.children v.1)
       ∙ bind_is (slice_get core.names name) _ (codes "string") r.is_string
-      ∙ ended_if own ns (has_string (codes "string") v.0 && no_question x.mark) (Some (3, form.Val)) (and_from (has_string (codes "string") v.0) (no_question x.mark) test r.mark) r.type r.masks
+      ∙ ended_if own ns (has_string (codes "string") v.0) (Some (3, form.Val)) test r.type r.masks
 
   -- ---- control
 
   pub seq_means : (x : Node) → seq_says core ns x (before own) ≡ Some (said_by own) → Seq core own ns x
   seq_means x h =
       let l = bind_some (last_note ns) _ (said_by own) h in
-      let n = bind_some (through_notes ns (before own)) _ (said_by own) l.2 in
-      let k = kept (all_but_last_end ns) (Some (says_of l.0.ty (seq_live core x.children l.0 n.0.0, n.0.1))) (said_by own) n.2 in
-      let p = said_parts own l.0.ty (seq_live core x.children l.0 n.0.0, n.0.1) k.1 in
-      record { front = arguments ns; last = l.0; children = last_is ns l.0 l.1; all_end = k.0; type = p.0; after_children = n.0; in_order = through_means ns (before own) n.0 n.1; masks = p.1 }
+      let p = ends_at own ns (λ n. l.0.ty) (λ n. (without_items core x.children n.0, n.1)) l.2 in
+      record { front = arguments ns; last = l.0; children = last_is ns l.0 l.1; type = p.2; after_children = p.0; in_order = p.1; masks = p.3 }
 
   pub means_seq : (x : Node) → Seq core own ns x → seq_says core ns x (before own) ≡ Some (said_by own)
   means_seq x r =
       bind_is (last_note ns) _ r.last (ap last_note r.children ∙ (is_last r.front r.last).0)
-      ∙ bind_is (through_notes ns (before own)) _ r.after_children (means_through ns (before own) r.after_children r.in_order)
-      ∙ ap (λ (b : Bool). cond b (Some (says_of r.last.ty (seq_live core x.children r.last r.after_children.0, r.after_children.1))) None) r.all_end
-      ∙ parts_said own r.last.ty (seq_live core x.children r.last r.after_children.0, r.after_children.1) r.type r.masks
+      ∙ ended_at own ns (λ n. r.last.ty) (λ n. (without_items core x.children n.0, n.1)) r.after_children r.in_order r.type r.masks
 
   condition_is : (o : Option Ty) → is_condition o ≡ true → Reads 2 o
   condition_is None e = absurd (false_true e)
@@ -318,11 +305,11 @@ module _ (core : CoreData) (own : Note) (ns : List Note) where
   if_means h =
       let c = bind_some (three_notes ns) _ (said_by own) h in
       let n = bind_some (branch_masks c.0 (before own)) _ (said_by own) c.2 in
-      let k = kept (is_condition c.0.0.ty) (Some (says_of (joined_ends core c.0.1 c.0.2) n.0)) (said_by own) n.2 in
+      let k = kept (is_condition c.0.0.ty) (Some (says_of (joined core c.0.1.ty c.0.2.ty) n.0)) (said_by own) n.2 in
       let b = kept (starts c.0.0 (before own) && (starts c.0.1 (masks_after c.0.0) && starts c.0.2 (masks_after c.0.0))) (Some (meet_masks (masks_after c.0.1) (masks_after c.0.2))) n.0 n.1 in
       let s = and_parts (starts c.0.0 (before own)) (starts c.0.1 (masks_after c.0.0) && starts c.0.2 (masks_after c.0.0)) b.0 in
       let t = and_parts (starts c.0.1 (masks_after c.0.0)) (starts c.0.2 (masks_after c.0.0)) s.1 in
-      let p = said_parts own (joined_ends core c.0.1 c.0.2) n.0 k.1 in
+      let p = said_parts own (joined core c.0.1.ty c.0.2.ty) n.0 k.1 in
       record {
         condition = c.0.0;
         yes = c.0.1;
@@ -344,8 +331,45 @@ module _ (core : CoreData) (own : Note) (ns : List Note) where
       let masks : branch_masks c (before own) ≡ Some (meet_masks (masks_after r.yes) (masks_after r.no)) = ap (λ b. cond b (Some (meet_masks (masks_after r.yes) (masks_after r.no))) None) start in
       bind_is (three_notes ns) _ c (ap three_notes r.children)
       ∙ bind_is (branch_masks c (before own)) _ (meet_masks (masks_after r.yes) (masks_after r.no)) masks
-      ∙ ap (λ b. cond b (Some (says_of (joined_ends core r.yes r.no) (meet_masks (masks_after r.yes) (masks_after r.no)))) None) (is_condition_so r.condition.ty r.reads)
-      ∙ parts_said own (joined_ends core r.yes r.no) (meet_masks (masks_after r.yes) (masks_after r.no)) r.type r.masks
+      ∙ ap (λ b. cond b (Some (says_of (joined core r.yes.ty r.no.ty) (meet_masks (masks_after r.yes) (masks_after r.no)))) None) (is_condition_so r.condition.ty r.reads)
+      ∙ parts_said own (joined core r.yes.ty r.no.ty) (meet_masks (masks_after r.yes) (masks_after r.no)) r.type r.masks
+
+  pub while_means : while_says ns (before own) ≡ Some (said_by own) → While own ns
+  while_means h =
+      let c = bind_some (two_notes ns) _ (said_by own) h in
+      let n = bind_some (loop_masks c.0 (before own)) _ (said_by own) c.2 in
+      let k = kept (is_condition c.0.0.ty) (Some (says_of (Some (0, form.Val)) n.0)) (said_by own) n.2 in
+      let first_test = starts c.0.0 (before own) && starts c.0.1 (masks_after c.0.0) in
+      let second_test = within own.live_before c.0.1.live_after && same c.0.1.set_after own.set_before in
+      let b = kept (first_test && second_test) (Some (masks_after c.0.0)) n.0 n.1 in
+      let s = and_parts first_test second_test b.0 in
+      let t = and_parts (starts c.0.0 (before own)) (starts c.0.1 (masks_after c.0.0)) s.0 in
+      let u = and_parts (within own.live_before c.0.1.live_after) (same c.0.1.set_after own.set_before) s.1 in
+      let p = said_parts own (Some (0, form.Val)) n.0 k.1 in
+      record {
+        condition = c.0.0;
+        body = c.0.1;
+        children = two_are ns c.0 c.1;
+        reads = condition_is c.0.0.ty k.0;
+        type = p.0;
+        starts = starts_so c.0.0 (before own) t.0;
+        body_starts = starts_so c.0.1 (masks_after c.0.0) t.1;
+        keeps = u.0;
+        same_set = same_mask c.0.1.set_after own.set_before u.1;
+        masks = p.1 ∙ sym (same_Some (masks_after c.0.0) n.0 b.1);
+      }
+
+  pub means_while : While own ns → while_says ns (before own) ≡ Some (said_by own)
+  means_while r =
+      let c : Note × Note = (r.condition, r.body) in
+      let first_test = and_from (starts r.condition (before own)) (starts r.body (masks_after r.condition)) (is_starts r.condition (before own) r.starts) (is_starts r.body (masks_after r.condition) r.body_starts) in
+      let second_test = and_from (within own.live_before r.body.live_after) (same r.body.set_after own.set_before) r.keeps (mask_same r.body.set_after own.set_before r.same_set) in
+      let test = and_from (starts r.condition (before own) && starts r.body (masks_after r.condition)) (within own.live_before r.body.live_after && same r.body.set_after own.set_before) first_test second_test in
+      let masks : loop_masks c (before own) ≡ Some (masks_after r.condition) = ap (λ b. cond b (Some (masks_after r.condition)) None) test in
+      bind_is (two_notes ns) _ c (ap two_notes r.children)
+      ∙ bind_is (loop_masks c (before own)) _ (masks_after r.condition) masks
+      ∙ ap (λ b. cond b (Some (says_of (Some (0, form.Val)) (masks_after r.condition))) None) (is_condition_so r.condition.ty r.reads)
+      ∙ parts_said own (Some (0, form.Val)) (masks_after r.condition) r.type r.masks
 
   pub recover_means : (k : Option Cap) → recover_says ns k (before own) ≡ Some (said_by own) → Recover own ns k
   recover_means k h =
@@ -361,13 +385,21 @@ module _ (core : CoreData) (own : Note) (ns : List Note) where
       ∙ bind_is (recovered k r.value.1) (λ g. through_notes ns (before own) >>= λ n. Some (says_of (Some (r.value.0, g)) n)) r.lifted r.is_lifted
       ∙ ended own ns (Some (r.value.0, r.lifted)) r.type r.masks
 
+  result_is : (k : MethodKind) (r : Ty) (o : Option Ty) → result_ok core k r o ≡ true → k ≡ method.Fun → (v : Ty) × (o ≡ Some v) × (lower core v r ≡ true)
+  result_is method.Fun r None e h = absurd (false_true e)
+  result_is method.Fun r (Some v) e h = (v, refl, e)
+  result_is k r o e h = absurd (cc h)
+
+  is_result : (k : MethodKind) (r : Ty) (o : Option Ty) → (k ≡ method.Fun → (v : Ty) × (o ≡ Some v) × (lower core v r ≡ true)) → result_ok core k r o ≡ true
+  is_result method.Fun r o h = let g = h refl in ap (gives_result core r) g.1 ∙ g.2
+  is_result k r o h = refl
+
   pub body_means : (x : Node) → body_says core ns x (before own) ≡ Some (said_by own) → Body core own ns x
   body_means x h =
       let f = bind_some (slice_get core.methods x.method) _ (said_by own) h in
       let t = bind_some (one_note ns) _ (said_by own) f.2 in
-      let p = ends_if own ns (starts_method core f.0 (before own) && (gives_ok core f.0 t.0 && exits_ok f.0 t.0)) None t.2 in
-      let a = and_parts (starts_method core f.0 (before own)) (gives_ok core f.0 t.0 && exits_ok f.0 t.0) p.0 in
-      let g = and_parts (gives_ok core f.0 t.0) (exits_ok f.0 t.0) a.1 in
+      let p = ends_if own ns (starts_method core f.0 (before own) && result_ok core f.0.kind f.0.result t.0.ty) None t.2 in
+      let a = and_parts (starts_method core f.0 (before own)) (result_ok core f.0.kind f.0.result t.0.ty) p.0 in
       let b = and_parts (same own.live_before (first (1 + length f.0.params))) (same own.set_before (start_set core f.0)) a.0 in
       record {
         home = f.0;
@@ -376,20 +408,19 @@ module _ (core : CoreData) (own : Note) (ns : List Note) where
         children = one_is ns t.0 t.1;
         live = same_mask own.live_before (first (1 + length f.0.params)) b.0;
         set = same_mask own.set_before (start_set core f.0) b.1;
-        gives = g.0;
-        exits = g.1;
+        result = result_is f.0.kind f.0.result t.0.ty a.1;
         type = p.1;
         masks = p.2;
       }
 
   pub means_body : (x : Node) → Body core own ns x → body_says core ns x (before own) ≡ Some (said_by own)
   means_body x r =
-      let test = and_from (starts_method core r.home (before own)) (gives_ok core r.home r.child && exits_ok r.home r.child)
+      let test = and_from (starts_method core r.home (before own)) (result_ok core r.home.kind r.home.result r.child.ty)
       (and_from (same own.live_before (first (1 + length r.home.params))) (same own.set_before (start_set core r.home)) (mask_same own.live_before (first (1 + length r.home.params)) r.live) (mask_same own.set_before (start_set core r.home) r.set))
-      (and_from (gives_ok core r.home r.child) (exits_ok r.home r.child) r.gives r.exits) in
+      (is_result r.home.kind r.home.result r.child.ty r.result) in
       bind_is (slice_get core.methods x.method) _ r.home r.is_home
       ∙ bind_is (one_note ns) _ r.child (ap one_note r.children)
-      ∙ ended_if own ns (starts_method core r.home (before own) && (gives_ok core r.home r.child && exits_ok r.home r.child)) None test r.type r.masks
+      ∙ ended_if own ns (starts_method core r.home (before own) && result_ok core r.home.kind r.home.result r.child.ty) None test r.type r.masks
 
 -- ---- operators on two values
 

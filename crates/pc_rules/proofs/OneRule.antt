@@ -11,7 +11,7 @@ use Rattle.pc_base.specs.Lists.{◌>>=◌, place_of}
 use Rattle.pc_base.proofs.{Options.{bind_some, kept, bind_is}, Bools.false_true}
 use Rattle.pc_ann.specs.{declared.annotation.Ann.Ann, declared.annotation.Rule.Rule}
 use Rattle.pc_ann.specs.declared.annotation.Rule.TheVariants as rule
-use Rattle.pc_rules.specs.{declared.said.Said.Said, Parts.{reads_as, readable, through, type_of, one_child, last_child}, Calls.{is_function, is_behaviour, is_isolated, is_lent, lends, same_text, has_text, has_string, mark_fits, no_question}, Operators.{is_arithmetic, is_comparison, is_equality, is_add, is_xor, both_read_as}}
+use Rattle.pc_rules.specs.{declared.said.Said.Said, Parts.{reads_as, readable, through, type_of, one_child, last_child}, Calls.{is_function, is_behaviour, is_isolated, is_lent, lends, same_text, has_text, has_string}, Operators.{is_arithmetic, is_comparison, is_equality, is_add, is_xor, both_read_as}}
 use Rattle.pc_valid.specs.Words.{Ty, Masks}
 use Rattle.pc_rules.proofs.ByNumber.{two_types, define_says, body_says, arguments, arguments_go, arguments_sendable, called, calls, call_says, recovers, callrecover_says, sends, send_says, builtin_says, value_says, says}
 
@@ -52,17 +52,13 @@ is_called core o i f b c e g h k =
     ∙ ap (λ t. cond t rule.Send (cond (fits i.0.1 f.receiver) rule.Call rule.CallRecover)) h
     ∙ ap (λ t. cond b rule.Send (cond t rule.Call rule.CallRecover)) k
 
--- A conclusion for which two things are asked, of which one is the mark of a call.
-pub kept_marked : (asked mark : Bool) (o : Option Said) (q : Said) → cond (asked && mark) o None ≡ Some q → (asked ≡ true) × (o ≡ Some q)
-kept_marked asked mark o q e = let k = kept (asked && mark) o q e in ((and_parts asked mark k.0).0, k.1)
-
 module _ (core : CoreData) (ann : Ann) (x : Node) (m : Masks) (q : Said) where
   pub is_call : (name : ℕ) → call_says core ann x name m ≡ Some q → rule.Call ≡ call_rule core (called core ann x name)
   is_call name e =
       let a = bind_some (called core ann x name) _ q e in
       let b = bind_some (slice_get core.methods a.0.1) _ q a.2 in
       let c = bind_some (through ann x.children m) _ q b.2 in
-      let k = and_parts (calls core ann x a.0.0 b.0) (mark_fits x.mark b.0) (kept (calls core ann x a.0.0 b.0 && mark_fits x.mark b.0) _ q c.2).0 in
+      let k = kept (calls core ann x a.0.0 b.0) _ q c.2 in
       let p = and_parts (is_function b.0.kind) (arguments_go core ann (arguments x.children) b.0.params && fits a.0.0.1 b.0.receiver) k.0 in
       let r = and_parts (arguments_go core ann (arguments x.children) b.0.params) (fits a.0.0.1 b.0.receiver) p.1 in
       sym (is_called core (called core ann x name) a.0 b.0 false true a.1 b.1 (no_behaviour b.0.kind p.0) r.1)
@@ -72,7 +68,7 @@ module _ (core : CoreData) (ann : Ann) (x : Node) (m : Masks) (q : Said) where
       let a = bind_some (called core ann x name) _ q e in
       let b = bind_some (slice_get core.methods a.0.1) _ q a.2 in
       let c = bind_some (through ann x.children m) _ q b.2 in
-      let k = and_parts (recovers core ann x a.0.0 b.0) (mark_fits x.mark b.0) (kept (recovers core ann x a.0.0 b.0 && mark_fits x.mark b.0) _ q c.2).0 in
+      let k = kept (recovers core ann x a.0.0 b.0) _ q c.2 in
       let p = and_parts (is_function b.0.kind && arguments_go core ann (arguments x.children) b.0.params) (lends a.0.0.1 b.0.receiver && arguments_sendable ann (arguments x.children) b.0.params) k.0 in
       let f = and_parts (is_function b.0.kind) (arguments_go core ann (arguments x.children) b.0.params) p.0 in
       let l = and_parts (lends a.0.0.1 b.0.receiver) (arguments_sendable ann (arguments x.children) b.0.params) p.1 in
@@ -84,7 +80,7 @@ module _ (core : CoreData) (ann : Ann) (x : Node) (m : Masks) (q : Said) where
       let a = bind_some (called core ann x name) _ q e in
       let b = bind_some (slice_get core.methods a.0.1) _ q a.2 in
       let c = bind_some (through ann x.children m) _ q b.2 in
-      let k = and_parts (sends core ann x b.0) (mark_fits x.mark b.0) (kept (sends core ann x b.0 && mark_fits x.mark b.0) _ q c.2).0 in
+      let k = kept (sends core ann x b.0) _ q c.2 in
       let p = and_parts (is_behaviour b.0.kind) (arguments_go core ann (arguments x.children) b.0.params) k.0 in
       sym (is_called core (called core ann x name) a.0 b.0 true (fits a.0.0.1 b.0.receiver) a.1 b.1 p.0 refl)
 
@@ -124,7 +120,7 @@ is_builtin core ann x m q name formed e =
     let b = bind_some (type_of ann a.0) _ q a.2 in
     let c = bind_some (slice_get core.names name) _ q b.2 in
     let d = bind_some (through ann x.children m) _ q c.2 in
-    let k = and_parts (has_string c.0 b.0) (no_question x.mark) (kept (has_string c.0 b.0 && no_question x.mark) _ q d.2).0 in
+    let k = kept (has_string c.0 b.0) _ q d.2 in
     let p = and_parts (same_text c.0 (codes "string")) (has_text b.0) k.0 in
     let none : called core ann x name ≡ None =
     bind_is (last_child x.children) _ a.0 (only_child x.children a.0 a.1)

@@ -1,11 +1,10 @@
 -- The vocabulary of the rules as relations, and how it is computed.
-use Rattle.std.specs.{Prelude.{◌≡◌, ◌↔◌, ℕ, zero, suc, ◌+◌, ◌-◌, ◌<◌, ◌≤◌, Bool, true, false, not, cond, List, [], ◌∷◌, ◌++◌, length, map, Option, Some, None, slice_get, bit_and, min, refl}, Int.bit_at}
+use Rattle.std.specs.{Prelude.{◌≡◌, ◌↔◌, ℕ, zero, suc, ◌+◌, ◌-◌, ◌<◌, ◌≤◌, Bool, true, false, cond, List, [], ◌∷◌, ◌++◌, length, map, Option, Some, None, slice_get, bit_and, min, refl}, Int.bit_at}
 use Rattle.std.proofs.{Common.{inl, inr, ap, sym, subst, ◌∙◌, arith}, lemmas.Option.{same_Some, none-some}, lemmas.Bool.{and_parts, and_from, eqb-true}, lemmas.Nat.Bits.{bit_at_and, same_from_bits}}
 use Rattle.pc_caps.specs.{Computed.{is_below, fits}, Closure.below_iff, Tables.{unalias, lift, taken, at}, declared.capability.Cap.Cap, declared.capability.Form.Form}
 use Rattle.pc_caps.specs.declared.capability.Form.TheVariants as form
-use Rattle.pc_core.specs.{declared.declarations.EntityDef.EntityDef, declared.declarations.FieldInfo.FieldInfo, declared.declarations.Method.Method, declared.declarations.MethodKind.MethodKind, declared.declarations.ParamInfo.ParamInfo, declared.nodes.Slot.Slot, declared.nodes.Mark.Mark, declared.nodes.Node.Node, declared.nodes.NodeKind.NodeKind, CoreData.{CoreData, own_methods, field_named, method_named, IsMethod}, Parts.{field_name, method_name, IsField}, Formed.Formed, Members.{method_among, field_found, field_missed, method_found, method_missed}}
+use Rattle.pc_core.specs.{declared.declarations.EntityDef.EntityDef, declared.declarations.FieldInfo.FieldInfo, declared.declarations.Method.Method, declared.declarations.MethodKind.MethodKind, declared.declarations.ParamInfo.ParamInfo, declared.nodes.Slot.Slot, declared.nodes.Node.Node, declared.nodes.NodeKind.NodeKind, CoreData.{CoreData, own_methods, field_named, method_named, IsMethod}, Parts.{field_name, method_name, IsField}, Formed.Formed, Members.{method_among, field_found, field_missed, method_found, method_missed}}
 use Rattle.pc_core.specs.declared.declarations.MethodKind.TheVariants as method
-use Rattle.pc_core.specs.declared.nodes.Mark.TheVariants as mark
 use Rattle.pc_core.specs.declared.nodes.NodeKind.TheVariants as node
 use Rattle.pc_tree.specs.declared.kinds.Op.{Op}
 use Rattle.pc_tree.specs.declared.kinds.Op.TheVariants as op
@@ -13,10 +12,10 @@ use Rattle.pc_base.proofs.{Gets.{get_below, get_front, get_append, get_map, rang
 use Rattle.pc_sub.specs.{Computed.is_sub, Agreement.is_sub_iff}
 use Rattle.pc_masks.specs.{declared.mask.Mask.Mask, Masks.{IsInMask, empty, first, within}, MaskLaws.{within_bits, first_bits, without_number_bits}}
 use Rattle.pc_ann.specs.declared.annotation.Note.{Note}
-use Rattle.pc_rules.specs.{Parts.{constructs, fields_in, field_count, all_fields, full, goes_to, lower, slot_of}, Values.defined_type, Fields.{field_of, own_field}, Calls.{mark_fits, no_question}, Operators.{is_arithmetic, is_comparison, is_equality, is_add, is_xor}, Control.{joined, joined_ends, recovered, start_set}}
+use Rattle.pc_rules.specs.{Parts.{constructs, fields_in, field_count, all_fields, full, goes_to, lower, slot_of}, Values.defined_type, Fields.{field_of, own_field}, Operators.{is_arithmetic, is_comparison, is_equality, is_add, is_xor}, Checks.is_else, Control.{without_definition, without_item, without_items, joined, recovered, start_set}}
 use Rattle.pc_rules.proofs.Lawful.{items_bits}
 use Rattle.pc_rules.proofs.Meaning as mirror
-use Rattle.pc_valid.specs.{Valid.{arithmetic, comparisons, equalities, IsOneOf}, Words.{Masks, masks_after, OneAfterOther, Sendable, Defines, Ty, Place, FormFits, IsLower, GoesTo, ReadsValue, Joined, to_second, to_first, to_none, no_first, no_second, OfBranches, both_end, first_ends, second_ends, none_ends, Recovers, as_lifted, as_written, IsConstructor, AllSet, StartsSet, Slots, SlotOf, DefinedAs, FieldOf, Called, Go, Incomplete}, Exits.{MarkFits, without_definition, without_item, without_items}}
+use Rattle.pc_valid.specs.{Valid.{arithmetic, comparisons, equalities, IsOneOf}, Words.{Masks, masks_after, OneAfterOther, Sendable, Defines, Ty, Place, FormFits, IsLower, GoesTo, ReadsValue, Joined, to_second, to_first, to_none, no_first, no_second, Recovers, as_lifted, as_written, IsConstructor, AllSet, StartsSet, Slots, SlotOf, DefinedAs, FieldOf, Called, Go, Incomplete}}
 
 -- ---- types
 
@@ -80,27 +79,6 @@ module _ (core : CoreData) (f : Formed core) where
       sym (ap (λ p. cond p (Some w) (cond (lower core w v) (Some v) None)) (not_lower v w n) ∙ ap (λ p. cond p (Some v) None) (not_lower w v m))
   to_joined a b o no_first = refl
   to_joined a b o no_second = refl
-
-  -- Two branches of which one may not end.
-  branches_by : (a b : Note) (p q : Bool) → a.ends ≡ p → b.ends ≡ q → (o : Option Ty) → o ≡ cond p (cond q (joined core a.ty b.ty) a.ty) (cond q b.ty None) → OfBranches core a b o
-  branches_by a b true true e g o h = both_end e g (joined_to a.ty b.ty o h)
-  branches_by a b true false e g o h = subst (OfBranches core a b) (sym h) (first_ends e g)
-  branches_by a b false true e g o h = subst (OfBranches core a b) (sym h) (second_ends e g)
-  branches_by a b false false e g o h = subst (OfBranches core a b) (sym h) (none_ends e g)
-
-  pub branches_to : (a b : Note) (o : Option Ty) → o ≡ joined_ends core a b → OfBranches core a b o
-  branches_to a b o h = branches_by a b a.ends b.ends refl refl o h
-
-  branch_is : (a b : Note) (p q : Bool) → a.ends ≡ p → b.ends ≡ q → joined_ends core a b ≡ cond p (cond q (joined core a.ty b.ty) a.ty) (cond q b.ty None)
-  branch_is a b p q e g =
-      ap (λ (z : Bool). cond z (cond b.ends (joined core a.ty b.ty) a.ty) (cond b.ends b.ty None)) e
-      ∙ ap (λ (z : Bool). cond p (cond z (joined core a.ty b.ty) a.ty) (cond z b.ty None)) g
-
-  pub to_branches : (a b : Note) (o : Option Ty) → OfBranches core a b o → o ≡ joined_ends core a b
-  to_branches a b o (both_end e g j) = to_joined a.ty b.ty o j ∙ sym (branch_is a b true true e g)
-  to_branches a b o (first_ends e g) = sym (branch_is a b true false e g)
-  to_branches a b o (second_ends e g) = sym (branch_is a b false true e g)
-  to_branches a b o (none_ends e g) = sym (branch_is a b false false e g)
 
 pub recovers_to : (k : Option Cap) (f g : Form) → recovered k f ≡ Some g → Recovers k f g
 recovers_to None f g e = subst (Recovers None f) (same_Some (lift f) g e) as_lifted
@@ -413,18 +391,13 @@ to_ends core cs l m h =
     ((within_bits m (without_items core cs l)).1 (λ i p. (items_bits core cs l i).1 ((h i).0 p)))
     ((within_bits (without_items core cs l) m).1 (λ i p. (h i).1 ((items_bits core cs l i).0 p)))
 
--- ---- marks
+-- ---- an `else` branch
 
-mark_total : (b : Bool) → (not b ≡ true) ↔ (b ≡ false)
-mark_total true = (λ h. sym h, λ h. sym h)
-mark_total false = (λ h. refl, λ h. refl)
+pub else_to : (k : NodeKind) (i : ℕ) → is_else k (suc i) ≡ false → k ≡ node.If → i ≡ 1 → ⊥
+else_to k i e g h = false_true (sym e ∙ ap (λ (j : NodeKind). is_else j (suc i)) g ∙ ap (λ (j : ℕ). is_else node.If (suc j)) h)
 
-pub mark_iff : (m : Mark) (f : Method) → (mark_fits m f ≡ true) ↔ MarkFits m f
-mark_iff mark.Total f = mark_total f.partial
-mark_iff mark.Partial f = (λ h. h, λ h. h)
-mark_iff mark.Any f = (λ h. tt, λ h. refl)
-
-pub no_question_iff : (m : Mark) → (no_question m ≡ true) ↔ (m ≡ mark.Partial → ⊥)
-no_question_iff mark.Total = (λ h e. false_true (ap no_question (sym e)), λ h. refl)
-no_question_iff mark.Partial = (λ h e. false_true h, λ h. absurd (h refl))
-no_question_iff mark.Any = (λ h e. false_true (ap no_question (sym e)), λ h. refl)
+pub to_else : (k : NodeKind) (i : ℕ) → (k ≡ node.If → i ≡ 1 → ⊥) → is_else k (suc i) ≡ false
+to_else node.If zero h = refl
+to_else node.If (suc zero) h = absurd (h refl refl)
+to_else node.If (suc (suc i)) h = refl
+to_else k i h = refl

@@ -1,20 +1,19 @@
 -- If a rule applies to a node, it is the only one, and the node's children are evaluated one after the other, except
--- for the parts of an `if`, a loop and a `try`.
+-- for the branches of an `if`, which both follow the condition.
 use Rattle.std.specs.Prelude.{◌≡◌, ℕ, zero, suc, Bool, true, false, cond, List, [], ◌∷◌, length, Option, Some, None, slice_get, if◌then◌else◌, refl}
 use Rattle.std.proofs.{Common.{ap, sym, subst, ◌∙◌}, lemmas.Option.{same_Some, none-some}, lemmas.Bool.{and_parts, eqb-true}}
 use Rattle.pc_caps.specs.{declared.capability.Cap.Cap, Tables.view}
 use Rattle.pc_caps.specs.declared.capability.Form.TheVariants as form
-use Rattle.pc_core.specs.{declared.declarations.Method.Method, declared.declarations.MethodKind.MethodKind, declared.nodes.Node.Node, declared.nodes.NodeKind.NodeKind, CoreData.CoreData, Formed.Formed, Nodes.HasArity}
-use Rattle.pc_core.specs.declared.declarations.MethodKind.TheVariants as method
+use Rattle.pc_core.specs.{declared.declarations.Method.Method, declared.nodes.Node.Node, declared.nodes.NodeKind.NodeKind, CoreData.CoreData, Formed.Formed, Nodes.HasArity}
 use Rattle.pc_core.specs.declared.nodes.NodeKind.TheVariants as node
 use Rattle.pc_base.specs.Lists.{◌>>=◌}
 use Rattle.pc_base.proofs.{Options.{bind_some, kept, kept_otherwise, bind_is}, Bools.false_true, Cuts.without_length}
 use Rattle.pc_masks.specs.{declared.mask.Mask.Mask, Masks.same}
 use Rattle.pc_ann.specs.{declared.annotation.Note.Note, declared.annotation.Ann.Ann, declared.annotation.Rule.Rule}
 use Rattle.pc_ann.specs.declared.annotation.Rule.TheVariants as rule
-use Rattle.pc_rules.specs.{declared.said.Said.Said, Parts.{full, starts, through, notes_of, type_of, one_child, last_child}, Values.{defines, assigns}, Fields.{own_field, field_type, old_type}, Operators.{is_arithmetic, is_comparison, is_equality, is_add, is_xor, both_read_as, comparable}, Control.{value_returned, returned, no_notes, return_ok, return_says, says_no_end, recovered}}
+use Rattle.pc_rules.specs.{declared.said.Said.Said, Parts.{starts, through, type_of, one_child, last_child}, Values.{defines, assigns}, Fields.{own_field, field_type, old_type}, Operators.{is_arithmetic, is_comparison, is_equality, is_add, is_xor, both_read_as, comparable}, Control.recovered}
 use Rattle.pc_valid.specs.Words.{Ty, Masks, before, masks_after}
-use Rattle.pc_rules.proofs.{OneRule.{call_rule, operator_rule, is_call, is_callrecover, is_send, is_builtin, is_arith, is_join, is_compare, is_equal, is_logic, asked}, ByNumber.{two_children, two_types, slot_of, defined, assigned, incomplete, read_says, own_read_says, write_says, value_type, own_write_says, called, value_says, lazy_masks, says, own_seen}}
+use Rattle.pc_rules.proofs.{OneRule.{call_rule, operator_rule, is_call, is_callrecover, is_send, is_builtin, is_arith, is_join, is_compare, is_equal, is_logic, asked}, ByNumber.{two_children, three_children, two_types, slot_of, defined, assigned, incomplete, read_says, own_read_says, write_says, value_type, own_write_says, called, value_says, lazy_masks, branch_masks, loop_masks, says, own_seen}}
 
 -- The children are evaluated one after the other.
 abbrev pub Threaded : Ann → List ℕ → Masks → Type 0
@@ -39,33 +38,18 @@ through_two ann c d m n k e f =
     bind_is (slice_get ann.notes c) (λ u. cond (starts u m) (through ann (d ∷ []) (masks_after u)) None) t.0 t.1
     ∙ ap (λ b. cond b (through ann (d ∷ []) (masks_after t.0)) None) t.2 ∙ ap (through ann (d ∷ [])) t.3 ∙ f
 
--- No child, or one with this note.
-notes_none : (ann : Ann) (cs : List ℕ) → notes_of ann.notes cs ≡ Some [] → cs ≡ []
-notes_none ann [] e = refl
-notes_none ann (c ∷ cs) e =
-    let a = bind_some (slice_get ann.notes c) _ [] e in
-    let b = bind_some (notes_of ann.notes cs) (λ (more : List Note). Some (a.0 ∷ more)) [] a.2 in
-    absurd (let bad : a.0 ∷ b.0 ≡ [] = same_Some (a.0 ∷ b.0) [] b.2 in cc)
-
-notes_one : (ann : Ann) (cs : List ℕ) (t : Note) → notes_of ann.notes cs ≡ Some (t ∷ []) → (c : ℕ) × (cs ≡ c ∷ []) × (slice_get ann.notes c ≡ Some t)
-notes_one ann [] t e = absurd (let bad : [] ≡ t ∷ [] = same_Some [] (t ∷ []) e in cc)
-notes_one ann (c ∷ cs) t e =
-    let a = bind_some (slice_get ann.notes c) _ (t ∷ []) e in
-    let b = bind_some (notes_of ann.notes cs) (λ (more : List Note). Some (a.0 ∷ more)) (t ∷ []) a.2 in
-    let are : a.0 ∷ b.0 ≡ t ∷ [] = same_Some (a.0 ∷ b.0) (t ∷ []) b.2 in
-    let first : a.0 ≡ t = cc are in
-    let rest : b.0 ≡ [] = cc are in
-    (c, ap (λ (ds : List ℕ). c ∷ ds) (notes_none ann cs (b.1 ∙ ap Some rest)), a.1 ∙ ap Some first)
-
-one_through : (ann : Ann) (c : ℕ) (t : Note) (m : Masks) → slice_get ann.notes c ≡ Some t → starts t m ≡ true → through ann (c ∷ []) m ≡ Some (masks_after t)
-one_through ann c t m e s =
-    bind_is (slice_get ann.notes c) (λ u. cond (starts u m) (Some (masks_after u)) None) t e ∙ ap (λ b. cond b (Some (masks_after t)) None) s
-
 two_are : (cs : List ℕ) (c : ℕ × ℕ) → two_children cs ≡ Some c → cs ≡ c.0 ∷ c.1 ∷ []
 two_are [] c e = absurd (none-some c e)
 two_are (a ∷ []) c e = absurd (none-some c e)
 two_are (a ∷ b ∷ []) c e = ap (λ (p : ℕ × ℕ). p.0 ∷ p.1 ∷ []) (same_Some (a, b) c e)
 two_are (a ∷ b ∷ d ∷ cs) c e = absurd (none-some c e)
+
+three_are : (cs : List ℕ) (c : ℕ × ℕ × ℕ) → three_children cs ≡ Some c → cs ≡ c.0 ∷ c.1 ∷ c.2 ∷ []
+three_are [] c e = absurd (none-some c e)
+three_are (a ∷ []) c e = absurd (none-some c e)
+three_are (a ∷ b ∷ []) c e = absurd (none-some c e)
+three_are (a ∷ b ∷ d ∷ []) c e = ap (λ (p : ℕ × ℕ × ℕ). p.0 ∷ p.1 ∷ p.2 ∷ []) (same_Some (a, b, d) c e)
+three_are (a ∷ b ∷ d ∷ f ∷ cs) c e = absurd (none-some c e)
 
 -- Both of two children.
 pair_threaded : (ann : Ann) (cs : List ℕ) (c : ℕ × ℕ) (m n k : Masks) → two_children cs ≡ Some c → through ann (c.0 ∷ []) m ≡ Some n → through ann (c.1 ∷ []) n ≡ Some k → Threaded ann cs m
@@ -105,21 +89,20 @@ rule_at core ann x (node.Same v) = rule.Identity
 rule_at core ann x node.Seq = rule.Seq
 rule_at core ann x node.If = rule.If
 rule_at core ann x node.While = rule.While
-rule_at core ann x node.Repeat = rule.Repeat
-rule_at core ann x node.Return = rule.Return
-rule_at core ann x node.Break = rule.Break
-rule_at core ann x node.Continue = rule.Continue
-rule_at core ann x node.Error = rule.Error
-rule_at core ann x (node.Try strict) = rule.Try
 rule_at core ann x (node.Recover k) = rule.Recover
 rule_at core ann x node.Body = rule.Body
 
--- The children of a node of this kind are not all evaluated one after the other.
+-- The two paths through an `if`.
+abbrev pub then_way : List ℕ → List ℕ
+then_way (c ∷ a ∷ b ∷ []) = c ∷ a ∷ []
+then_way cs = []
+
+abbrev pub else_way : List ℕ → List ℕ
+else_way (c ∷ a ∷ b ∷ []) = c ∷ b ∷ []
+else_way cs = []
+
 abbrev pub is_branch : NodeKind → Bool
 is_branch node.If = true
-is_branch node.While = true
-is_branch node.Repeat = true
-is_branch (node.Try strict) = true
 is_branch k = false
 
 module _ (core : CoreData) (ann : Ann) (x : Node) (m : Masks) (q : Said) where
@@ -208,29 +191,13 @@ module _ (core : CoreData) (ann : Ann) (x : Node) (m : Masks) (q : Said) where
       let b = bind_some (slice_get ann.notes a.0) _ q a.2 in
       threaded ann x.children m _ q b.2
 
-  -- The value of a `return` starts from the masks before the node.
-  returned_threads : (ns : List Note) (f : Method) → notes_of ann.notes x.children ≡ Some ns → returned core ns x f m ≡ true → Threaded ann x.children m
-  returned_threads [] f e r = absurd (false_true r)
-  returned_threads (t ∷ []) f e r =
-      let is = notes_one ann x.children t e in
-      (masks_after t, ap (λ (cs : List ℕ). through ann cs m) is.1 ∙ one_through ann is.0 t m is.2 (and_parts (starts t m) (value_returned core x f t.ty) r).0)
-  returned_threads (t ∷ u ∷ ts) f e r = absurd (false_true r)
-
-  valueless_threads : (ns : List Note) → notes_of ann.notes x.children ≡ Some ns → no_notes ns ≡ true → Threaded ann x.children m
-  valueless_threads [] e r = (m, ap (λ (cs : List ℕ). through ann cs m) (notes_none ann x.children e))
-  valueless_threads (t ∷ ts) e r = absurd (false_true r)
-
-  kind_threads : (k : MethodKind) (ns : List Note) (f : Method) → notes_of ann.notes x.children ≡ Some ns → return_ok core ns x f m k ≡ true → Threaded ann x.children m
-  kind_threads method.Fun ns f e r = returned_threads ns f e r
-  kind_threads method.Be ns f e r = valueless_threads ns e r
-  kind_threads method.New ns f e r = valueless_threads ns e (and_parts (no_notes ns) (full core f.entity m.1) r).0
-  kind_threads method.Spawn ns f e r = valueless_threads ns e (and_parts (no_notes ns) (full core f.entity m.1) r).0
-
-  return_threads : says core ann x m rule.Return node.Return ≡ Some q → Threaded ann x.children m
-  return_threads e =
-      let a = bind_some (notes_of ann.notes x.children) (λ ns. return_says core ns x m) q e in
-      let b = bind_some (slice_get core.methods x.method) _ q a.2 in
-      kind_threads b.0.kind a.0 b.0 a.1 (kept (return_ok core a.0 x b.0 m b.0.kind) (Some says_no_end) q b.2).0
+  while_threads : says core ann x m rule.While node.While ≡ Some q → Threaded ann x.children m
+  while_threads e =
+      let c = bind_some (two_children x.children) _ q e in
+      let l = bind_some (loop_masks ann c.0 m) _ q c.2 in
+      let n = bind_some (through ann (c.0.0 ∷ []) m) _ l.0 l.1 in
+      let k = bind_some (through ann (c.0.1 ∷ []) n.0) _ l.0 n.2 in
+      pair_threaded ann x.children c.0 m n.0 k.0 c.1 n.1 k.1
 
   recover_threads : (c : Option Cap) → says core ann x m rule.Recover (node.Recover c) ≡ Some q → Threaded ann x.children m
   recover_threads c e =
@@ -298,13 +265,7 @@ module _ (core : CoreData) (ann : Ann) (x : Node) (m : Masks) (q : Said) where
   applies rule.Lazy node.Or e = (λ f. refl, λ p h. or_threads e)
   applies rule.Identity (node.Same v) e = (λ f. refl, λ p h. identity_threads v e)
   applies rule.Seq node.Seq e = (λ f. refl, λ p h. seq_threads e)
-  applies rule.While node.While e = (λ f. refl, λ p h. absurd (false_true (sym p)))
-  applies rule.Repeat node.Repeat e = (λ f. refl, λ p h. absurd (false_true (sym p)))
-  applies rule.Try (node.Try strict) e = (λ f. refl, λ p h. absurd (false_true (sym p)))
-  applies rule.Return node.Return e = (λ f. refl, λ p h. return_threads e)
-  applies rule.Break node.Break e = (λ f. refl, λ p h. leaf ann x.children m h)
-  applies rule.Continue node.Continue e = (λ f. refl, λ p h. leaf ann x.children m h)
-  applies rule.Error node.Error e = (λ f. refl, λ p h. leaf ann x.children m h)
+  applies rule.While node.While e = (λ f. refl, λ p h. while_threads e)
   applies rule.Recover (node.Recover c) e = (λ f. refl, λ p h. recover_threads c e)
   applies rule.Body node.Body e = (λ f. refl, λ p h. body_threads e)
   applies rule.If node.If e = (λ f. refl, λ p h. absurd (false_true (sym p)))
@@ -313,6 +274,26 @@ module _ (core : CoreData) (ann : Ann) (x : Node) (m : Masks) (q : Said) where
   -- The children of such a node are evaluated one after the other.
   pub threads : (r : Rule) (k : NodeKind) → is_branch k ≡ false → HasArity k (length x.children) → says core ann x m r k ≡ Some q → Threaded ann x.children m
   threads r k p h e = (applies r k e).1 p h
+
+  -- Each branch of an `if` follows the condition.
+  branch_threads : says core ann x m rule.If node.If ≡ Some q → Threaded ann (then_way x.children) m × Threaded ann (else_way x.children) m
+  branch_threads e =
+      let c = bind_some (three_children x.children) _ q e in
+      let b = bind_some (branch_masks ann c.0 m) _ q c.2 in
+      let n = bind_some (through ann (c.0.0 ∷ []) m) _ b.0 b.1 in
+      let k = bind_some (through ann (c.0.1 ∷ []) n.0) _ b.0 n.2 in
+      let l = bind_some (through ann (c.0.2 ∷ []) n.0) _ b.0 k.2 in
+      let are = three_are x.children c.0 c.1 in (
+        (k.0, ap (λ (cs : List ℕ). through ann (then_way cs) m) are ∙ through_two ann c.0.0 c.0.1 m n.0 k.0 n.1 k.1),
+        (l.0, ap (λ (cs : List ℕ). through ann (else_way cs) m) are ∙ through_two ann c.0.0 c.0.2 m n.0 l.0 n.1 l.1),
+      )
+
+  if_rule : (r : Rule) → says core ann x m r node.If ≡ Some q → Threaded ann (then_way x.children) m × Threaded ann (else_way x.children) m
+  if_rule rule.If e = branch_threads e
+  if_rule r e = absurd (none-some q e)
+
+  pub if_threads : (r : Rule) → x.kind ≡ node.If → says core ann x m r x.kind ≡ Some q → Threaded ann (then_way x.children) m × Threaded ann (else_way x.children) m
+  if_threads r i e = if_rule r (subst (λ j. says core ann x m r j ≡ Some q) i e)
 
 pub is_rule_at : (core : CoreData) (ann : Ann) (x : Node) (m : Masks) (r : Rule) (k : NodeKind) (q : Said) → Formed core → says core ann x m r k ≡ Some q → r ≡ rule_at core ann x k
 is_rule_at core ann x m r k q f e = (applies core ann x m q r k e).0 f

@@ -1,13 +1,15 @@
 -- At most one annotation of a core is valid.
-use Rattle.std.specs.Prelude.{◌≡◌, ℕ, zero, suc, ◌+◌, ◌-◌, ◌<◌, ◌≤◌, List, [], ◌∷◌, ◌++◌, map, length, Option, Some, None, slice_get, refl}
-use Rattle.std.proofs.{Common.{ap, sym, subst, ◌∙◌, arith}, lemmas.Option.same_Some}
-use Rattle.pc_base.proofs.{Gets.{get_below, get_within, map_get}, Ranges.run_around, Options.bind_some}
-use Rattle.pc_core.specs.{declared.declarations.Method.Method, declared.nodes.Node.Node, declared.nodes.NodeKind.NodeKind, CoreData.{CoreData, node_end}, Methods.BodyFits, Formed.Formed}
+use Rattle.std.specs.Prelude.{◌≡◌, ◌⊎◌, ℕ, zero, suc, ◌+◌, ◌-◌, ◌<◌, ◌≤◌, false, List, [], ◌∷◌, map, length, Option, Some, None, slice_get, refl}
+use Rattle.std.proofs.{Common.{inl, inr, ap, sym, subst, ◌∙◌, arith}, lemmas.Option.{same_Some, none-some}}
+use Rattle.pc_base.proofs.{Gets.{get_below, get_within, map_get}, Ranges.run_around, Options.{bind_some, kept}}
+use Rattle.pc_core.specs.{declared.declarations.Method.Method, declared.nodes.Node.Node, declared.nodes.NodeKind.NodeKind, CoreData.{CoreData, node_end}, Methods.BodyFits, Nodes.HasArity, Formed.Formed}
+use Rattle.pc_core.specs.declared.nodes.NodeKind.TheVariants as node
 use Rattle.pc_base.specs.Lists.{Follow, Each}
 use Rattle.pc_ann.specs.{declared.annotation.Note.Note, declared.annotation.Ann.Ann}
-use Rattle.pc_rules.specs.{Parts.notes_of, Rules.{said_by, IsSaid, IsLeft}, Checks.Checks, Trees.{Tree, Forest, tree, empty, more, body_tree, forest_below}, Statements.OneValid}
-use Rattle.pc_valid.specs.Words.{Masks, before}
-use Rattle.pc_rules.proofs.{Derivations.to_valid, ChildStarts.{StartsBy, start_after, children_start_by}, Agreeing.{body_starts, body_method, body_says_at, Agree, known_alike, node_step}}
+use Rattle.pc_masks.specs.Masks.{same}
+use Rattle.pc_rules.specs.{Parts.{starts, through}, Rules.{said_by, IsSaid}, Checks.Checks, Trees.{Tree, Forest, tree, empty, more, body_tree, forest_below}, Statements.OneValid}
+use Rattle.pc_valid.specs.Words.{Masks, before, masks_after}
+use Rattle.pc_rules.proofs.{Derivations.to_valid, Bridge.{meets_threads, meets_if_threads}, Threads.{Threaded, then_way, else_way, is_branch, starts_so, first_starts, next_starts}, Agreeing.{body_starts, body_method, body_says_at, Agree, known_alike, node_step}}
 
 lists_equal : {T : Type 0} → (xs ys : List T) → length xs ≡ length ys → ((k : ℕ) → k < length xs → slice_get xs k ≡ slice_get ys k) → xs ≡ ys
 lists_equal [] [] e h = refl
@@ -25,14 +27,21 @@ meets_at core ann n x t v g h =
     let r = v.rules n (get_below core.nodes n x g) in
     subst (λ (y : Node). IsSaid core ann y t) (same_Some r.0 x (sym r.2 ∙ g)) (subst (λ (s : Note). IsSaid core ann r.0 s) (same_Some r.1 t (sym r.3 ∙ h)) r.4)
 
-left_of : (core : CoreData) (ann : Ann) (n : ℕ) (x : Node) (t : Note) → Checks core ann → slice_get core.nodes n ≡ Some x → slice_get ann.notes n ≡ Some t → IsLeft core ann x t
-left_of core ann n x t v g h =
-    let r = v.rules n (get_below core.nodes n x g) in
-    subst (λ (y : Node). IsLeft core ann y t) (same_Some r.0 x (sym r.2 ∙ g)) (subst (λ (s : Note). IsLeft core ann r.0 s) (same_Some r.1 t (sym r.3 ∙ h)) r.5)
+branches : (k : NodeKind) → (is_branch k ≡ false) ⊎ (k ≡ node.If)
+branches node.If = inr refl
+branches k = inl refl
 
--- The notes of the children of a node that meets its rule.
-notes_found : (core : CoreData) (ann : Ann) (x : Node) (t : Note) → IsSaid core ann x t → (ns : List Note) × (notes_of ann.notes x.children ≡ Some ns)
-notes_found core ann x t said = let a = bind_some (notes_of ann.notes x.children) _ (said_by t) said in (a.0, a.1)
+row_end : (core : CoreData) (low high : ℕ) → Forest core low high [] → low ≡ high
+row_end core low high empty = refl
+
+-- A child that is evaluated has a note.
+note_of_child : (ann : Ann) (cs : List ℕ) (m : Masks) (i c : ℕ) → Threaded ann cs m → slice_get cs i ≡ Some c → (t : Note) × (slice_get ann.notes c ≡ Some t)
+note_of_child ann [] m i c h e = absurd (none-some c e)
+note_of_child ann (d ∷ cs) m zero c h e = let a = bind_some (slice_get ann.notes d) _ h.0 h.1 in (a.0, ap (slice_get ann.notes) (sym (same_Some d c e)) ∙ a.1)
+note_of_child ann (d ∷ cs) m (suc i) c h e =
+    let a = bind_some (slice_get ann.notes d) _ h.0 h.1 in
+    let k = kept (starts a.0 m) (through ann cs (masks_after a.0)) h.0 a.2 in
+    note_of_child ann cs (masks_after a.0) i c (h.0, k.1) e
 
 module _ (core : CoreData) (a b : Ann) (formed : Formed core) (va : Checks core a) (vb : Checks core b) where
   -- If a node starts from the same masks in both, the annotations agree inside it and at it.
@@ -41,27 +50,52 @@ module _ (core : CoreData) (a b : Ann) (formed : Formed core) (va : Checks core 
     same_tree low n s t (tree x g f) same ga gb m =
         let ma = meets_at core a n x s va g ga in
         let mb = meets_at core b n x t vb g gb in
-        let arity = (formed.nodes n x g).arity in
-        let na = notes_found core a x s ma in
-        let nb = notes_found core b x t mb in
-        let inside = same_forest low n x.kind (before s) (before t) [] [] x.children na.0 nb.0 f same refl m na.1 nb.1 (children_start_by core a x s na.0 arity na.1 ma) (children_start_by core b x t nb.0 arity nb.1 mb) in
-        node_step core a b formed va.written vb.written n x s t g (forest_below core low n x.children f) inside ga gb ma mb (left_of core a n x s va g ga) (left_of core b n x t vb g gb) m
+        let inside : Agree core a b n = elim (branches x.kind) [
+          | inl plain ↦ let arity = (formed.nodes n x g).arity in
+              let ta = meets_threads core a x s plain arity ma in
+              let tb = meets_threads core b x t plain arity mb in
+              same_forest low n x.children (before s) ta.0 tb.0 f same ta.1 (subst (λ k. through b x.children k ≡ Some tb.0) (sym m) tb.1)
+          | inr if ↦ let wa = meets_if_threads core a x s if ma in
+              let wb = meets_if_threads core b x t if mb in
+              same_branches low n x.children (before s) f (subst (λ k. HasArity k (length x.children)) if (formed.nodes n x g).arity) same wa.0 wa.1 (subst (Threaded b (then_way x.children)) (sym m) wb.0) (subst (Threaded b (else_way x.children)) (sym m) wb.1)
+        ] in
+        node_step core a b formed va.written vb.written n x s t g (forest_below core low n x.children f) inside ga gb ma mb m
 
-    -- Each child starts from the same masks in both, by the notes before it.
-    same_forest : (low high : ℕ) (k : NodeKind) (m l : Masks) (done other : List Note) (cs : List ℕ) (ts us : List Note) → Forest core low high cs → Agree core a b low → done ≡ other → m ≡ l → notes_of a.notes cs ≡ Some ts → notes_of b.notes cs ≡ Some us → StartsBy k m done ts → StartsBy k l other us → Agree core a b high
-    same_forest low high k m l done other [] ts us empty same notes masks ea eb sa sb = same
-    same_forest low high k m l done other (c ∷ cs) ts us (more t f) same notes masks ea eb sa sb =
-        let pa = bind_some (slice_get a.notes c) _ ts ea in
-        let qa = bind_some (notes_of a.notes cs) (λ (rest : List Note). Some (pa.0 ∷ rest)) ts pa.2 in
-        let pb = bind_some (slice_get b.notes c) _ us eb in
-        let qb = bind_some (notes_of b.notes cs) (λ (rest : List Note). Some (pb.0 ∷ rest)) us pb.2 in
-        let ha : StartsBy k m done (pa.0 ∷ qa.0) = subst (StartsBy k m done) (sym (same_Some (pa.0 ∷ qa.0) ts qa.2)) sa in
-        let hb : StartsBy k l other (pb.0 ∷ qb.0) = subst (StartsBy k l other) (sym (same_Some (pb.0 ∷ qb.0) us qb.2)) sb in
-        let start : before pa.0 ≡ before pb.0 = ha.0 ∙ ap (start_after k m) notes ∙ ap (λ (z : Masks). start_after k z other) masks ∙ sym hb.0 in
-        let one = same_tree low c pa.0 pb.0 t same pa.1 pb.1 start in
-        let eq : pa.0 ≡ pb.0 = same_Some pa.0 pb.0 (sym pa.1 ∙ one.notes c (omega arith) ∙ pb.1) in
-        let both : done ++ pa.0 ∷ [] ≡ other ++ pb.0 ∷ [] = ap (λ (z : Note). done ++ z ∷ []) eq ∙ ap (λ (z : List Note). z ++ pb.0 ∷ []) notes in
-        same_forest (c + 1) high k m l (done ++ pa.0 ∷ []) (other ++ pb.0 ∷ []) cs qa.0 qb.0 f one both masks qa.1 qb.1 ha.1 hb.1
+    -- Both branches of an `if` follow the condition.
+    same_branches : (low high : ℕ) (cs : List ℕ) (m : Masks) → Forest core low high cs → length cs ≡ 3 → Agree core a b low → Threaded a (then_way cs) m → Threaded a (else_way cs) m → Threaded b (then_way cs) m → Threaded b (else_way cs) m → Agree core a b high
+    same_branches low high [] m f count same ta ea tb eb = absurd (omega (arith, count))
+    same_branches low high (c ∷ []) m f count same ta ea tb eb = absurd (omega (arith, count))
+    same_branches low high (c ∷ d ∷ []) m f count same ta ea tb eb = absurd (omega (arith, count))
+    same_branches low high (c ∷ d ∷ e ∷ []) m (more t f) count same ta ea tb eb =
+        let ca = note_of_child a (c ∷ d ∷ []) m 0 c ta refl in
+        let cb = note_of_child b (c ∷ d ∷ []) m 0 c tb refl in
+        let one = same_tree low c ca.0 cb.0 t same ca.1 cb.1 (first_starts a (c ∷ d ∷ []) m c ca.0 ta refl ca.1 ∙ sym (first_starts b (c ∷ d ∷ []) m c cb.0 tb refl cb.1)) in
+        let eq : ca.0 ≡ cb.0 = same_Some ca.0 cb.0 (sym ca.1 ∙ one.notes c (omega arith) ∙ cb.1) in
+        let da = note_of_child a (c ∷ d ∷ []) m 1 d ta refl in
+        let db = note_of_child b (c ∷ d ∷ []) m 1 d tb refl in
+        let fa = note_of_child a (c ∷ e ∷ []) m 1 e ea refl in
+        let fb = note_of_child b (c ∷ e ∷ []) m 1 e eb refl in
+        same_two (c + 1) high d e da.0 db.0 fa.0 fb.0 f one da.1 db.1 fa.1 fb.1
+        (next_starts a (c ∷ d ∷ []) m 0 c d ca.0 da.0 ta refl refl ca.1 da.1 ∙ ap masks_after eq ∙ sym (next_starts b (c ∷ d ∷ []) m 0 c d cb.0 db.0 tb refl refl cb.1 db.1))
+        (next_starts a (c ∷ e ∷ []) m 0 c e ca.0 fa.0 ea refl refl ca.1 fa.1 ∙ ap masks_after eq ∙ sym (next_starts b (c ∷ e ∷ []) m 0 c e cb.0 fb.0 eb refl refl cb.1 fb.1))
+    same_branches low high (c ∷ d ∷ e ∷ g ∷ cs) m f count same ta ea tb eb = absurd (omega (arith, count))
+
+    same_two : (low high d e : ℕ) (da db fa fb : Note) → Forest core low high (d ∷ e ∷ []) → Agree core a b low → slice_get a.notes d ≡ Some da → slice_get b.notes d ≡ Some db → slice_get a.notes e ≡ Some fa → slice_get b.notes e ≡ Some fb → before da ≡ before db → before fa ≡ before fb → Agree core a b high
+    same_two low high d e da db fa fb (more t f) same gda gdb gfa gfb second third = same_last (d + 1) high e fa fb f (same_tree low d da db t same gda gdb second) gfa gfb third
+
+    same_last : (low high e : ℕ) (fa fb : Note) → Forest core low high (e ∷ []) → Agree core a b low → slice_get a.notes e ≡ Some fa → slice_get b.notes e ≡ Some fb → before fa ≡ before fb → Agree core a b high
+    same_last low high e fa fb (more t f) same gfa gfb third = subst (Agree core a b) (row_end core (e + 1) high f) (same_tree low e fa fb t same gfa gfb third)
+
+    same_forest : (low high : ℕ) (cs : List ℕ) (m ma mb : Masks) → Forest core low high cs → Agree core a b low → through a cs m ≡ Some ma → through b cs m ≡ Some mb → Agree core a b high
+    same_forest low high [] m ma mb empty same ea eb = same
+    same_forest low high (c ∷ cs) m ma mb (more t f) same ea eb =
+        let pa = bind_some (slice_get a.notes c) _ ma ea in
+        let pb = bind_some (slice_get b.notes c) _ mb eb in
+        let ka = kept (starts pa.0 m) (through a cs (masks_after pa.0)) ma pa.2 in
+        let kb = kept (starts pb.0 m) (through b cs (masks_after pb.0)) mb pb.2 in
+        let first_one = same_tree low c pa.0 pb.0 t same pa.1 pb.1 (starts_so pa.0 m ka.0 ∙ sym (starts_so pb.0 m kb.0)) in
+        let eq : pa.0 ≡ pb.0 = same_Some pa.0 pb.0 (sym pa.1 ∙ first_one.notes c (omega arith) ∙ pb.1) in
+        same_forest (c + 1) high cs (masks_after pa.0) ma mb f first_one ka.1 (subst (λ (z : Note). through b cs (masks_after z) ≡ Some mb) (sym eq) kb.1)
 
   -- A method's body starts from the same masks in both.
   body_alike : (m : ℕ) (x : Method) (body : ℕ) → slice_get core.methods m ≡ Some x → x.body ≡ Some body → BodyFits core m x body → Agree core a b x.first_node → Agree core a b (body + 1)

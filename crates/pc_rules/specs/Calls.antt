@@ -1,7 +1,7 @@
 -- Rules for constructors, calls and messages.
 use Rattle.std.specs.Prelude.{ℕ, ◌-◌, Bool, true, false, ◌&&◌, ◌||◌, not, List, [], ◌∷◌, length, take, Option, Some, None, nat_eq, slice_get, codes, if◌then◌else◌}
 use Rattle.pc_caps.specs.{Computed.fits, Tables.{sendable, sendable_form}, declared.capability.Cap.Cap, declared.capability.Form.Form}
-use Rattle.pc_core.specs.{CoreData.{method_named, CoreData}, declared.declarations.Method.Method, declared.declarations.MethodKind.MethodKind, declared.declarations.ParamInfo.ParamInfo, declared.nodes.Mark.Mark, declared.nodes.Node.Node}
+use Rattle.pc_core.specs.{CoreData.{method_named, CoreData}, declared.declarations.Method.Method, declared.declarations.MethodKind.MethodKind, declared.declarations.ParamInfo.ParamInfo}
 use Rattle.pc_rules.specs.{Parts.{says_of, goes_to, reads_as, through_notes, one_type, last_note}, declared.said.Said.Said}
 use Rattle.pc_valid.specs.Words.{Ty, Masks}
 use Rattle.pc_tree.specs.Kinds.{none_entity, u64_entity, bool_entity, string_entity}
@@ -10,7 +10,6 @@ use Rattle.pc_ann.specs.declared.annotation.Note.{Note}
 use Rattle.pc_caps.specs.declared.capability.Cap.TheVariants as cap
 use Rattle.pc_caps.specs.declared.capability.Form.TheVariants as form
 use Rattle.pc_core.specs.declared.declarations.MethodKind.TheVariants as method
-use Rattle.pc_core.specs.declared.nodes.Mark.TheVariants as mark
 
 -- ---- arguments
 
@@ -25,35 +24,21 @@ arguments_go core [] [] = true
 arguments_go core (t ∷ ts) (p ∷ ps) = argument_goes core p t.ty && arguments_go core ts ps
 arguments_go core ts ps = false
 
--- ---- marks
-
--- The mark of a call fits a method that may fail, or that may not.
-abbrev pub mark_fits : Mark → Method → Bool
-mark_fits mark.Total f = not f.partial
-mark_fits mark.Partial f = f.partial
-mark_fits mark.Any f = true
-
--- The mark is not `?`.
-abbrev pub no_question : Mark → Bool
-no_question mark.Total = true
-no_question mark.Partial = false
-no_question mark.Any = true
-
 -- ---- constructors
 
 -- New: the arguments go to the parameters; the constructor's result.
-abbrev pub new_says : CoreData → List Note → Node → ℕ → Masks → Option Said
-new_says core ns x k m = do
+abbrev pub new_says : CoreData → List Note → ℕ → Masks → Option Said
+new_says core ns k m = do
   f ← slice_get core.methods k
   n ← through_notes ns m
-  if arguments_go core ns f.params && mark_fits x.mark f then Some (says_of (Some f.result) n) else None
+  if arguments_go core ns f.params then Some (says_of (Some f.result) n) else None
 
 -- Spawn: the arguments go to the parameters; the actor's entity, as `tag`.
-abbrev pub spawn_says : CoreData → List Note → Node → ℕ → Masks → Option Said
-spawn_says core ns x k m = do
+abbrev pub spawn_says : CoreData → List Note → ℕ → Masks → Option Said
+spawn_says core ns k m = do
   f ← slice_get core.methods k
   n ← through_notes ns m
-  if arguments_go core ns f.params && mark_fits x.mark f then Some (says_of (Some (f.entity, form.Tag)) n) else None
+  if arguments_go core ns f.params then Some (says_of (Some (f.entity, form.Tag)) n) else None
 
 -- ---- calls
 
@@ -86,12 +71,12 @@ abbrev pub calls : CoreData → List Note → Ty → Method → Bool
 calls core ns o f = is_function f.kind && (arguments_go core (arguments ns) f.params && fits o.1 f.receiver)
 
 -- Call: the method's result.
-abbrev pub call_says : CoreData → List Note → Node → ℕ → Masks → Option Said
-call_says core ns x name m = do
+abbrev pub call_says : CoreData → List Note → ℕ → Masks → Option Said
+call_says core ns name m = do
   i ← called core ns name
   f ← slice_get core.methods i.1
   n ← through_notes ns m
-  if calls core ns i.0 f && mark_fits x.mark f then Some (says_of (Some f.result) n) else None
+  if calls core ns i.0 f then Some (says_of (Some f.result) n) else None
 
 abbrev pub is_isolated : Form → Bool
 is_isolated form.Iso = true
@@ -137,24 +122,24 @@ abbrev pub recovered_result : Ty → Option Ty
 recovered_result r = if sendable_form r.1 then Some r else None
 
 -- Callrecover: the method's result, if it is sendable.
-abbrev pub callrecover_says : CoreData → List Note → Node → ℕ → Masks → Option Said
-callrecover_says core ns x name m = do
+abbrev pub callrecover_says : CoreData → List Note → ℕ → Masks → Option Said
+callrecover_says core ns name m = do
   i ← called core ns name
   f ← slice_get core.methods i.1
   n ← through_notes ns m
-  if recovers core ns i.0 f && mark_fits x.mark f then Some (says_of (recovered_result f.result) n) else None
+  if recovers core ns i.0 f then Some (says_of (recovered_result f.result) n) else None
 
 -- The method is a behaviour, and the arguments go to the parameters. The receiver's form does not matter.
 abbrev pub sends : CoreData → List Note → Method → Bool
 sends core ns f = is_behaviour f.kind && arguments_go core (arguments ns) f.params
 
 -- Send: None.
-abbrev pub send_says : CoreData → List Note → Node → ℕ → Masks → Option Said
-send_says core ns x name m = do
+abbrev pub send_says : CoreData → List Note → ℕ → Masks → Option Said
+send_says core ns name m = do
   i ← called core ns name
   f ← slice_get core.methods i.1
   n ← through_notes ns m
-  if sends core ns f && mark_fits x.mark f then Some (says_of (Some (none_entity, form.Val)) n) else None
+  if sends core ns f then Some (says_of (Some (none_entity, form.Val)) n) else None
 
 -- ---- the text of a value
 
@@ -171,9 +156,9 @@ has_text v = reads_as u64_entity v || reads_as bool_entity v
 abbrev pub has_string : List ℕ → Ty → Bool
 has_string name v = same_text name (codes "string") && has_text v
 
-abbrev pub builtin_says : CoreData → List Note → Node → ℕ → Masks → Option Said
-builtin_says core ns x name m = do
+abbrev pub builtin_says : CoreData → List Note → ℕ → Masks → Option Said
+builtin_says core ns name m = do
   v ← one_type ns
   text ← slice_get core.names name
   n ← through_notes ns m
-  if has_string text v && no_question x.mark then Some (says_of (Some (string_entity, form.Val)) n) else None
+  if has_string text v then Some (says_of (Some (string_entity, form.Val)) n) else None

@@ -1,11 +1,11 @@
 -- Valid annotations as computed, and what shows that there is none: the code is proved to compute this, and the laws of
 -- `specs/Statements.antt` state that it is what `pc_valid` defines by records.
-use Rattle.std.specs.Prelude.{◌≡◌, ℕ, ◌+◌, ◌<◌, ◌≤◌, true, false, List, length, take, Some, None, slice_get}
+use Rattle.std.specs.Prelude.{◌≡◌, ℕ, zero, suc, ◌+◌, ◌<◌, ◌≤◌, Bool, true, false, length, Some, None, slice_get}
 use Rattle.pc_ann.specs.{declared.annotation.Rule.Rule, declared.annotation.Note.Note, declared.annotation.Ann.Ann}
 use Rattle.pc_sub.specs.Declarations.{DeclOk}
-use Rattle.pc_rules.specs.{Parts.{constructs, full, notes_of}, Control.start_set, Rules.{says, IsSaid, IsLeft, NoteIsSaid}}
-use Rattle.pc_valid.specs.{Words.{Masks, Slots, before}, Exits.starts_at, Valid.KeepsWritten, NoRule.DifferAt}
-use Rattle.pc_core.specs.{declared.declarations.Method.Method, declared.nodes.Node.Node, CoreData.CoreData}
+use Rattle.pc_rules.specs.{Parts.{constructs, full}, Control.start_set, Rules.{says, IsSaid, NoteIsSaid}}
+use Rattle.pc_valid.specs.{Words.{Masks, Slots, before, masks_after}, Valid.KeepsWritten, NoRule.DifferAt}
+use Rattle.pc_core.specs.{declared.declarations.Method.Method, declared.nodes.Node.Node, declared.nodes.NodeKind.NodeKind, CoreData.CoreData}
 use Rattle.pc_base.specs.Lists.{Each}
 use Rattle.pc_masks.specs.Masks.{first}
 use Rattle.pc_core.specs.declared.nodes.NodeKind.TheVariants as node
@@ -26,15 +26,23 @@ pub record Checks (core : CoreData) (ann : Ann) : Type 0 where
 
 -- ---- the masks that reach a node
 
--- A method's body starts from the masks of the method, and a child from those with which it starts by the notes of the
--- children before it, or else from those of its parent.
+-- The child with index i is an `else` branch.
+abbrev pub is_else : NodeKind → ℕ → Bool
+is_else node.If (suc (suc zero)) = true
+is_else k i = false
+
+-- A method's body starts from the masks of the method, and a first child from those of its parent. An `else` branch starts
+-- from those after the condition, and any other child from those after the child before it.
 pub data StartsFrom (core : CoreData) (ann : Ann) : ℕ → Masks → Type 0 where
   body : {n : ℕ} (x : Node) (f : Method) → slice_get core.nodes n ≡ Some x → x.kind ≡ node.Body → slice_get core.methods x.method ≡ Some f
       → StartsFrom core ann n (first (1 + length f.params), start_set core f)
-  with_parent : {n : ℕ} {m : Masks} (p i : ℕ) (x : Node) (ns : List Note) → slice_get core.nodes p ≡ Some x → slice_get x.children i ≡ Some n
-      → notes_of ann.notes (take i x.children) ≡ Some ns → starts_at x.kind ns ≡ None → StartsFrom core ann p m → StartsFrom core ann n m
-  after_others : {n : ℕ} {m : Masks} (p i : ℕ) (x : Node) (ns : List Note) → slice_get core.nodes p ≡ Some x → slice_get x.children i ≡ Some n
-      → notes_of ann.notes (take i x.children) ≡ Some ns → starts_at x.kind ns ≡ Some m → StartsFrom core ann n m
+  first_child : {n : ℕ} {m : Masks} (p : ℕ) (x : Node) → slice_get core.nodes p ≡ Some x → slice_get x.children 0 ≡ Some n
+      → StartsFrom core ann p m → StartsFrom core ann n m
+  else_branch : {n : ℕ} (p c : ℕ) (x : Node) (t : Note) → slice_get core.nodes p ≡ Some x → x.kind ≡ node.If → slice_get x.children 2 ≡ Some n
+      → slice_get x.children 0 ≡ Some c → slice_get ann.notes c ≡ Some t → StartsFrom core ann n (masks_after t)
+  next_child : {n : ℕ} (p c i : ℕ) (x : Node) (t : Note) → slice_get core.nodes p ≡ Some x → is_else x.kind (suc i) ≡ false
+      → slice_get x.children (suc i) ≡ Some n → slice_get x.children i ≡ Some c → slice_get ann.notes c ≡ Some t
+      → StartsFrom core ann n (masks_after t)
 
 -- ---- that no annotation is valid
 
@@ -42,7 +50,7 @@ pub data StartsFrom (core : CoreData) (ann : Ann) : ℕ → Masks → Type 0 whe
 abbrev pub GoesWell : CoreData → Ann → ℕ → Type 0
 GoesWell core ann n =
     (x : Node) × (t : Note) × (slice_get core.nodes n ≡ Some x) × (slice_get ann.notes n ≡ Some t) × IsSaid core ann x t
-    × IsLeft core ann x t × StartsFrom core ann n (before t)
+    × StartsFrom core ann n (before t)
 
 -- With the masks from which node n starts, no rule applies to it, whatever the type of its slot if that follows from
 -- it.

@@ -4,7 +4,7 @@
 --     actor Main
 --       new create(env: Env) =>
 --         let a: C iso = C
-use Rattle.std.specs.Prelude.{◌≡◌, ℕ, true, false, List, [], ◌∷◌, Option, Some, None, slice_get, codes}
+use Rattle.std.specs.Prelude.{◌≡◌, ℕ, List, [], ◌∷◌, Option, Some, None, slice_get, codes}
 use Rattle.pc_base.specs.declared.span.Span.{Span}
 use Rattle.pc_caps.specs.declared.capability.Form.{Form}
 use Rattle.pc_tree.specs.Kinds.{none_entity, env_entity}
@@ -16,7 +16,6 @@ use Rattle.pc_caps.specs.declared.capability.Form.TheVariants as form
 use Rattle.pc_tree.specs.declared.kinds.EntityKind.TheVariants as kind
 use Rattle.pc_core.specs.declared.declarations.MethodKind.TheVariants as method
 use Rattle.pc_core.specs.declared.nodes.SlotKind.TheVariants as slot
-use Rattle.pc_core.specs.declared.nodes.Mark.TheVariants as mark
 use Rattle.pc_core.specs.declared.nodes.NodeKind.TheVariants as node
 use Rattle.pc_ann.specs.declared.annotation.Rule.TheVariants as rule
 
@@ -39,7 +38,6 @@ create_c = record {
   receiver = cap.Ref;
   params = [];
   result = (6, form.IsoE);
-  partial = false;
   first_slot = 0;
   slots = 1;
   first_node = 0;
@@ -55,7 +53,6 @@ create_main = record {
   receiver = cap.Ref;
   params = record { entity = env_entity; cap = cap.Val; span = at 32 35 } ∷ [];
   result = (7, form.Tag);
-  partial = false;
   first_slot = 1;
   slots = 3;
   first_node = 3;
@@ -64,7 +61,7 @@ create_main = record {
 }
 
 abbrev pub node_of : ℕ → NodeKind → List ℕ → Span → Node
-node_of m k children s = record { kind = k; mark = mark.Total; children = children; depth = 0; method = m; span = s }
+node_of m k children s = record { kind = k; children = children; depth = 0; method = m; span = s }
 
 abbrev pub four_slots : CoreData
 four_slots = record {
@@ -95,10 +92,6 @@ noted r ty before after = record {
   set_before = record { 0 = 0 };
   live_after = record { 0 = after };
   set_after = record { 0 = 0 };
-  ends = true;
-  breaks = None;
-  continues = None;
-  errors = None;
 }
 
 abbrev pub derivation : Ann

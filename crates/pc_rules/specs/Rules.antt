@@ -1,14 +1,13 @@
 -- The rules as computed: the conclusion of each for a node, by the types of the slots and the notes of its children, in
 -- order, and when the note of a node is the conclusion of its rule.
-use Rattle.std.specs.Prelude.{◌≡◌, ℕ, true, List, Option, Some, None, slice_get}
+use Rattle.std.specs.Prelude.{◌≡◌, ℕ, List, Option, Some, None, slice_get}
 use Rattle.pc_tree.specs.Kinds.{u64_entity, bool_entity, string_entity}
 use Rattle.pc_ann.specs.{declared.annotation.Rule.Rule, declared.annotation.Note.Note, declared.annotation.Ann.Ann}
-use Rattle.pc_rules.specs.{Parts.notes_of, Values.{literal_says, this_says, local_says, consume_says, define_says, assign_says}, Fields.{get_says, getown_says, put_says, putown_says}, Calls.{new_says, spawn_says, call_says, callrecover_says, send_says, builtin_says}, Operators.{arith_says, compare_says, equal_says, join_says, xor_says, not_says, identity_says, lazy_says}, Control.{seq_says, if_says, while_says, repeat_says, return_says, jump_says, try_says, recover_says, body_says}, declared.said.Said.Said}
-use Rattle.pc_valid.specs.{Words.{Masks, Slots, before}, Exits.{Leaves, own_ends, own_exit}}
+use Rattle.pc_rules.specs.{Parts.notes_of, Values.{literal_says, this_says, local_says, consume_says, define_says, assign_says}, Fields.{get_says, getown_says, put_says, putown_says}, Calls.{new_says, spawn_says, call_says, callrecover_says, send_says, builtin_says}, Operators.{arith_says, compare_says, equal_says, join_says, xor_says, not_says, identity_says, lazy_says}, Control.{seq_says, if_says, while_says, recover_says, body_says}, declared.said.Said.Said}
+use Rattle.pc_valid.specs.Words.{Masks, Slots, before}
 use Rattle.pc_core.specs.{declared.nodes.Node.Node, declared.nodes.NodeKind.NodeKind, CoreData.CoreData}
 use Rattle.pc_base.specs.Lists.{◌>>=◌}
 use Rattle.pc_ann.specs.declared.annotation.Rule.TheVariants as rule
-use Rattle.pc_core.specs.declared.kinds.Exit.TheVariants as exit
 use Rattle.pc_core.specs.declared.nodes.NodeKind.TheVariants as node
 
 -- The conclusion of a rule for node x, with these masks before it, if it is a rule for nodes of this kind and its
@@ -27,12 +26,12 @@ rule_says core slots ns x m rule.Put (node.SetField name) = put_says core ns x n
 rule_says core slots ns x m rule.PutOwn (node.SetField name) = putown_says core ns x name m
 rule_says core slots ns x m rule.Define (node.Define s) = define_says core slots ns x s m
 rule_says core slots ns x m rule.Assign (node.Assign s) = assign_says core slots ns x s m
-rule_says core slots ns x m rule.New (node.New k) = new_says core ns x k m
-rule_says core slots ns x m rule.Spawn (node.Spawn k) = spawn_says core ns x k m
-rule_says core slots ns x m rule.Call (node.Call name) = call_says core ns x name m
-rule_says core slots ns x m rule.CallRecover (node.Call name) = callrecover_says core ns x name m
-rule_says core slots ns x m rule.Send (node.Call name) = send_says core ns x name m
-rule_says core slots ns x m rule.Builtin (node.Call name) = builtin_says core ns x name m
+rule_says core slots ns x m rule.New (node.New k) = new_says core ns k m
+rule_says core slots ns x m rule.Spawn (node.Spawn k) = spawn_says core ns k m
+rule_says core slots ns x m rule.Call (node.Call name) = call_says core ns name m
+rule_says core slots ns x m rule.CallRecover (node.Call name) = callrecover_says core ns name m
+rule_says core slots ns x m rule.Send (node.Call name) = send_says core ns name m
+rule_says core slots ns x m rule.Builtin (node.Call name) = builtin_says core ns name m
 rule_says core slots ns x m rule.Arith (node.Binary o) = arith_says ns o m
 rule_says core slots ns x m rule.Compare (node.Binary o) = compare_says ns o m
 rule_says core slots ns x m rule.Equal (node.Binary o) = equal_says ns o m
@@ -45,12 +44,6 @@ rule_says core slots ns x m rule.Identity (node.Same v) = identity_says ns m
 rule_says core slots ns x m rule.Seq node.Seq = seq_says core ns x m
 rule_says core slots ns x m rule.If node.If = if_says core ns m
 rule_says core slots ns x m rule.While node.While = while_says ns m
-rule_says core slots ns x m rule.Repeat node.Repeat = repeat_says ns m
-rule_says core slots ns x m rule.Return node.Return = return_says core ns x m
-rule_says core slots ns x m rule.Break node.Break = jump_says
-rule_says core slots ns x m rule.Continue node.Continue = jump_says
-rule_says core slots ns x m rule.Error node.Error = jump_says
-rule_says core slots ns x m rule.Try (node.Try strict) = try_says core ns strict m
 rule_says core slots ns x m rule.Recover (node.Recover k) = recover_says ns k m
 rule_says core slots ns x m rule.Body node.Body = body_says core ns x m
 rule_says core slots ns x m r k = None
@@ -71,36 +64,6 @@ says core ann x m r k = do
 abbrev pub IsSaid : CoreData → Ann → Node → Note → Type 0
 IsSaid core ann x t = says core ann x (before t) t.rule x.kind ≡ Some (said_by t)
 
--- It states how the node is left.
-abbrev pub IsLeft : CoreData → Ann → Node → Note → Type 0
-IsLeft core ann x t = (ns : List Note) → notes_of ann.notes x.children ≡ Some ns → Leaves core t ns x
-
--- Node n has a note that is the conclusion of its rule, and states how the node is left.
+-- Node n has a note that is the conclusion of its rule.
 abbrev pub NoteIsSaid : CoreData → Ann → ℕ → Type 0
-NoteIsSaid core ann n =
-    (x : Node) × (t : Note) × (slice_get core.nodes n ≡ Some x) × (slice_get ann.notes n ≡ Some t) × IsSaid core ann x t × IsLeft core ann x t
-
--- The note of node x, with these notes of its children, by a rule's conclusion from these masks.
-abbrev pub without_exits : Rule → Masks → Said → Note
-without_exits r m q = record {
-  rule = r;
-  ty = q.ty;
-  live_before = m.0;
-  set_before = m.1;
-  live_after = q.live;
-  set_after = q.set;
-  ends = true;
-  breaks = None;
-  continues = None;
-  errors = None;
-}
-
-abbrev pub noted : CoreData → Node → List Note → Rule → Masks → Said → Note
-noted core x ns r m q =
-    let t = without_exits r m q in
-    record t {
-      ends = own_ends x.kind ns;
-      breaks = own_exit core t ns x exit.Break;
-      continues = own_exit core t ns x exit.Continue;
-      errors = own_exit core t ns x exit.Error;
-    }
+NoteIsSaid core ann n = (x : Node) × (t : Note) × (slice_get core.nodes n ≡ Some x) × (slice_get ann.notes n ≡ Some t) × IsSaid core ann x t

@@ -1,10 +1,10 @@
 -- Laws of the rules.
-use Rattle.std.specs.Prelude.{◌≡◌, ◌≢◌, ◌⊎◌, ◌↔◌, ℕ, ◌<◌, true, List, Some, slice_get}
+use Rattle.std.specs.Prelude.{◌≡◌, ◌≢◌, ◌⊎◌, ◌↔◌, ℕ, ◌<◌, List, Some}
 use Rattle.pc_base.specs.Limits.{slot_limit}
 use Rattle.pc_core.specs.{declared.nodes.Node.Node, declared.nodes.NodeKind.NodeKind, CoreData.CoreData, Formed.Formed}
 use Rattle.pc_ann.specs.{declared.annotation.Note.Note, declared.annotation.Ann.Ann, declared.annotation.Rule.Rule}
 use Rattle.pc_masks.specs.Masks.{IsInMask}
-use Rattle.pc_rules.specs.{declared.said.Said.Said, Parts.{through, last_child}, Rules.{says, said_by, IsSaid, NoteIsSaid, rule_says}, Checks.{Checks, SaysNothing, StaysUnset}}
+use Rattle.pc_rules.specs.{declared.said.Said.Said, Parts.through, Rules.{says, said_by, IsSaid, NoteIsSaid, rule_says}, Checks.{Checks, SaysNothing, StaysUnset}}
 use Rattle.pc_valid.specs.{Words.{Masks, Slots, before, Defines}, Valid.{Means, MeetsRule, Valid}, NoRule.{NoRule, Unset}}
 use Rattle.pc_core.specs.declared.nodes.NodeKind.TheVariants as node
 use Rattle.pc_ann.specs.declared.annotation.Rule.TheVariants as rule
@@ -26,12 +26,12 @@ DefinePutsIn =
     (core : CoreData) (ann : Ann) (x : Node) (s : ℕ) (m n : Masks) (r : Said) → says core ann x m rule.Define (node.Define s) ≡ Some r → through ann x.children m ≡ Some n
     → ((i : ℕ) → (IsInMask r.live i) ↔ (((i ≡ s) × (s < slot_limit)) ⊎ IsInMask n.0 i)) × (r.set ≡ n.1)
 
--- After a sequence whose last item ends, exactly the slots that its items define are no longer live, and the set fields
--- are as after its last item.
+-- After a sequence exactly the slots that its items define are no longer live, and the set fields are as after its last
+-- item.
 abbrev pub SeqTakesOut : Type 0
 SeqTakesOut =
-    (core : CoreData) (ann : Ann) (x : Node) (m n : Masks) (r : Said) (c : ℕ) (t : Note) → says core ann x m rule.Seq node.Seq ≡ Some r → through ann x.children m ≡ Some n
-    → last_child x.children ≡ Some c → slice_get ann.notes c ≡ Some t → t.ends ≡ true → ((i : ℕ) → (IsInMask r.live i) ↔ (IsInMask n.0 i × ((Defines core x.children i) → ⊥))) × (r.set ≡ n.1)
+    (core : CoreData) (ann : Ann) (x : Node) (m n : Masks) (r : Said) → says core ann x m rule.Seq node.Seq ≡ Some r → through ann x.children m ≡ Some n
+    → ((i : ℕ) → (IsInMask r.live i) ↔ (IsInMask n.0 i × ((Defines core x.children i) → ⊥))) × (r.set ≡ n.1)
 
 -- At most one annotation of a core is valid.
 abbrev pub OneValid : Type 0

@@ -1,5 +1,5 @@
 -- Fields and slots; constructors, calls, messages and the end of a method.
-use Rattle.std.specs.{Prelude.{ℕ, Option, Some, None, slice_get, ◌-◌, Bool, true, false, ◌&&◌, List, [], ◌∷◌, length, nat_eq, nat_lt, codes, decimal, option_map, unwrap_or, if◌then◌else◌}, Str.bytes_eq, Option.{option_flatten, option_map_or}}
+use Rattle.std.specs.{Prelude.{ℕ, Option, Some, None, slice_get, ◌-◌, Bool, false, ◌&&◌, List, [], ◌∷◌, length, nat_eq, nat_lt, codes, decimal, option_map, unwrap_or, if◌then◌else◌}, Str.bytes_eq, Option.{option_flatten, option_map_or}}
 use Rattle.pc_heap.specs.{Objects.next_address, declared.value.Value.Value, declared.value.Value.TheVariants.{At, Num, Truth, Text}}
 use Rattle.pc_core.specs.{CoreData.{field_named, CoreData, method_named}, declared.nodes.NodeKind.NodeKind, Kinds.{field_read, field_written, stored_slot, called_name}, declared.declarations.Method.Method, declared.declarations.MethodKind.MethodKind}
 use Rattle.pc_base.specs.Lists.{◌>>=◌}
@@ -90,19 +90,9 @@ invoke_task core around f cs k =
     given lack.Value (called_name k) λ name. pop f λ this g. pop_arguments g (length cs - 1) λ arguments h.
     given lack.Method (value_entity around.objects this) (invoke core around name this arguments h)
 
--- A method of this kind leaves a value to the one that called it.
-abbrev pub leaves_value : MethodKind → Bool
-leaves_value method.Fun = true
-leaves_value method.New = true
-leaves_value method.Be = false
-leaves_value method.Spawn = false
-
 -- Return: the frame ends. A class's constructor returns its object, which is in the first slot.
 abbrev pub leave : Frame → MethodKind → Move
 leave f method.Fun = pop f λ v g. Leaves (Some v)
 leave f method.New = given lack.Slot (slot_value f 0) λ v. Leaves (Some v)
 leave f method.Be = Leaves None
 leave f method.Spawn = Leaves None
-
-abbrev pub leave_task : CoreData → Frame → Move
-leave_task core f = given lack.Method (slice_get core.methods f.method) λ x. leave f x.kind

@@ -3,11 +3,10 @@ use Rattle.std.specs.{Prelude.{ℕ, ◌+◌, ◌-◌, ◌*◌, ◌/◌, ◌%◌,
 use Rattle.pc_base.specs.Limits.{text_limit}
 use Rattle.pc_tree.specs.declared.kinds.Op.{Op}
 use Rattle.pc_heap.specs.{declared.value.Value.Value, declared.value.Value.TheVariants.{Num, Truth, Text, Prim, At}}
-use Rattle.pc_core.specs.{CoreData.CoreData, declared.kinds.Operation.Operation, declared.kinds.Connective.Connective, declared.kinds.Exit.Exit, declared.nodes.NodeKind.NodeKind, Kinds.{applied_operation, connective}}
-use Rattle.pc_semantics.specs.{declared.frames.Task.Task, declared.frames.Frame.Frame, Configurations.{Move, Stuck, Overflows, Goes, pushed, with_slot, slot_value, doing, given, push_value, pop}, Calls.leave_task, Children.evaluations, Exits.exits}
+use Rattle.pc_core.specs.{declared.kinds.Operation.Operation, declared.kinds.Connective.Connective, declared.nodes.NodeKind.NodeKind, Kinds.{applied_operation, connective}}
+use Rattle.pc_semantics.specs.{declared.frames.Task.Task, declared.frames.Frame.Frame, Configurations.{Move, Stuck, Overflows, Goes, pushed, with_slot, slot_value, doing, given, push_value, pop, none}, Children.evaluations}
 use Rattle.pc_tree.specs.declared.kinds.Op.TheVariants as op
 use Rattle.pc_core.specs.declared.kinds.Connective.TheVariants as joins
-use Rattle.pc_core.specs.declared.kinds.Exit.TheVariants as exit
 use Rattle.pc_core.specs.declared.kinds.Operation.TheVariants as applies
 use Rattle.pc_core.specs.declared.nodes.NodeKind.TheVariants as node
 use Rattle.pc_semantics.specs.declared.frames.Task.TheVariants as task
@@ -16,8 +15,7 @@ use Rattle.pc_semantics.specs.declared.outcome.Lack.TheVariants as lack
 -- ---- Eval
 
 -- How a node is evaluated: to a value; to that of a slot, which is copied or taken; all children and then a task; the
--- first child and then tasks; the items of a sequence, of which every value but the last is dropped; the value of a
--- `return`, if there is one, and then the end of the method; or by an exit.
+-- first child and then tasks; or the items of a sequence, of which every value but the last is dropped.
 pub data Way : Type 0 where
   Gives : Value → Way
   Copies : ℕ → Way
@@ -25,41 +23,33 @@ pub data Way : Type 0 where
   AllThen : Task → Way
   FirstThen : List Task → Way
   Items : Way
-  Returns : Way
-  Exits : Exit → Way
 
--- The way of node n, by its kind, with this number of values on the stack.
-abbrev pub way_of : ℕ → ℕ → NodeKind → Way
-way_of n h (node.Number k) = Gives (Num k)
-way_of n h (node.Truth b) = Gives (Truth b)
-way_of n h (node.Text t) = Gives (Text t)
-way_of n h (node.Prim e) = Gives (Prim e)
-way_of n h node.This = Copies 0
-way_of n h (node.Local s) = Copies s
-way_of n h (node.Consume s) = Takes s
-way_of n h (node.Field name) = AllThen (task.Get n)
-way_of n h (node.SetField name) = AllThen (task.Put n)
-way_of n h (node.Define s) = AllThen (task.Store n)
-way_of n h (node.Assign s) = AllThen (task.Store n)
-way_of n h (node.New m) = AllThen (task.Make n)
-way_of n h (node.Spawn m) = AllThen (task.Spawn n)
-way_of n h (node.Call name) = AllThen (task.Invoke n)
-way_of n h (node.Binary o) = AllThen (task.Apply n)
-way_of n h node.Not = AllThen (task.Apply n)
-way_of n h (node.Same b) = AllThen (task.Apply n)
-way_of n h node.And = FirstThen (task.Test n ∷ [])
-way_of n h node.Or = FirstThen (task.Test n ∷ [])
-way_of n h node.If = FirstThen (task.Branch n ∷ [])
-way_of n h node.While = FirstThen (task.Loop n ∷ [])
-way_of n h node.Repeat = FirstThen (task.Discard ∷ task.Mark n h ∷ [])
-way_of n h (node.Try strict) = FirstThen (task.Catch n h ∷ [])
-way_of n h node.Return = Returns
-way_of n h node.Break = Exits exit.Break
-way_of n h node.Continue = Exits exit.Continue
-way_of n h node.Error = Exits exit.Error
-way_of n h node.Seq = Items
-way_of n h (node.Recover cap) = FirstThen []
-way_of n h node.Body = FirstThen (task.Return ∷ [])
+-- The way of node n, by its kind.
+abbrev pub way_of : ℕ → NodeKind → Way
+way_of n (node.Number k) = Gives (Num k)
+way_of n (node.Truth b) = Gives (Truth b)
+way_of n (node.Text t) = Gives (Text t)
+way_of n (node.Prim e) = Gives (Prim e)
+way_of n node.This = Copies 0
+way_of n (node.Local s) = Copies s
+way_of n (node.Consume s) = Takes s
+way_of n (node.Field name) = AllThen (task.Get n)
+way_of n (node.SetField name) = AllThen (task.Put n)
+way_of n (node.Define s) = AllThen (task.Store n)
+way_of n (node.Assign s) = AllThen (task.Store n)
+way_of n (node.New m) = AllThen (task.Make n)
+way_of n (node.Spawn m) = AllThen (task.Spawn n)
+way_of n (node.Call name) = AllThen (task.Invoke n)
+way_of n (node.Binary o) = AllThen (task.Apply n)
+way_of n node.Not = AllThen (task.Apply n)
+way_of n (node.Same b) = AllThen (task.Apply n)
+way_of n node.And = FirstThen (task.Test n ∷ [])
+way_of n node.Or = FirstThen (task.Test n ∷ [])
+way_of n node.If = FirstThen (task.Branch n ∷ [])
+way_of n node.While = FirstThen (task.Loop n ∷ [])
+way_of n node.Seq = Items
+way_of n (node.Recover cap) = FirstThen []
+way_of n node.Body = FirstThen (task.Return ∷ [])
 
 abbrev pub first_then : Frame → List ℕ → List Task → Move
 first_then f [] ts = Stuck lack.Value
@@ -70,22 +60,16 @@ item_tasks [] = []
 item_tasks (c ∷ []) = task.Eval c ∷ []
 item_tasks (c ∷ d ∷ children) = task.Eval c ∷ task.Discard ∷ item_tasks (d ∷ children)
 
-abbrev pub returns : CoreData → Frame → List ℕ → Move
-returns core f [] = leave_task core f
-returns core f (c ∷ children) = Goes (doing f (task.Eval c ∷ task.Return ∷ []))
+abbrev pub by_way : Frame → List ℕ → Way → Move
+by_way f cs (Gives v) = Goes (pushed f v)
+by_way f cs (Copies s) = push_value f lack.Slot (slot_value f s)
+by_way f cs (Takes s) = given lack.Slot (slot_value f s) λ v. Goes (pushed (with_slot f s None) v)
+by_way f cs (AllThen t) = Goes (doing f (evaluations cs ++ t ∷ []))
+by_way f cs (FirstThen ts) = first_then f cs ts
+by_way f cs Items = Goes (doing f (item_tasks cs))
 
-abbrev pub by_way : CoreData → Frame → List ℕ → Way → Move
-by_way core f cs (Gives v) = Goes (pushed f v)
-by_way core f cs (Copies s) = push_value f lack.Slot (slot_value f s)
-by_way core f cs (Takes s) = given lack.Slot (slot_value f s) λ v. Goes (pushed (with_slot f s None) v)
-by_way core f cs (AllThen t) = Goes (doing f (evaluations cs ++ t ∷ []))
-by_way core f cs (FirstThen ts) = first_then f cs ts
-by_way core f cs Items = Goes (doing f (item_tasks cs))
-by_way core f cs Returns = returns core f cs
-by_way core f cs (Exits x) = exits core f x
-
-abbrev pub evaluate : CoreData → Frame → ℕ → List ℕ → NodeKind → Move
-evaluate core f n cs k = by_way core f cs (way_of n (length f.stack) k)
+abbrev pub evaluate : Frame → ℕ → List ℕ → NodeKind → Move
+evaluate f n cs k = by_way f cs (way_of n k)
 
 -- ---- Apply
 
@@ -149,7 +133,7 @@ applied f applies.Not = pop f (truth λ b g. Goes (pushed g (Truth (not b))))
 abbrev pub apply_task : Frame → NodeKind → Move
 apply_task f k = given lack.Value (applied_operation k) (applied f)
 
--- ---- Test and Branch
+-- ---- Test, Branch and Loop
 
 abbrev pub right_side : Frame → List ℕ → Move
 right_side f (a ∷ b ∷ []) = Goes (doing f (task.Eval b ∷ []))
@@ -169,3 +153,9 @@ abbrev pub branch : List ℕ → Bool → Frame → Move
 branch (c ∷ a ∷ b ∷ []) true f = Goes (doing f (task.Eval a ∷ []))
 branch (c ∷ a ∷ b ∷ []) false f = Goes (doing f (task.Eval b ∷ []))
 branch cs b f = Stuck lack.Value
+
+-- The body and then the whole loop again, or None.
+abbrev pub loop_turn : ℕ → List ℕ → Bool → Frame → Move
+loop_turn n (c ∷ a ∷ []) true f = Goes (doing f (task.Eval a ∷ task.Discard ∷ task.Eval n ∷ []))
+loop_turn n (c ∷ a ∷ []) false f = Goes (pushed f none)
+loop_turn n cs b f = Stuck lack.Value

@@ -12,4 +12,3 @@ pub mod Lending
 pub mod Parts
 pub mod Pending
 pub mod Children
-pub mod Exits

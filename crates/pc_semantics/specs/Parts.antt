@@ -4,7 +4,7 @@ use Rattle.pc_base.specs.{Limits.text_limit, Lists.◌>>=◌}
 use Rattle.pc_tree.specs.declared.kinds.Op.{Op}
 use Rattle.pc_heap.specs.{Objects.{ObjectMap, Object, next_address}, declared.value.Address.Address, declared.value.Value.Value, declared.value.Value.TheVariants.{Num, Truth, Text, Prim, At}}
 use Rattle.pc_core.specs.{CoreData.{CoreData, field_named}, declared.declarations.EntityDef.EntityDef, declared.declarations.Method.Method, declared.nodes.Node.Node}
-use Rattle.pc_semantics.specs.{declared.actors.Actor.Actor, declared.ahead.Ahead.Ahead, declared.frames.Frame.Frame, declared.frames.Task.Task, declared.mailbox.Message.Message, declared.outcome.Outcome.Outcome, declared.outcome.Outcome.TheVariants.Skipped, Configurations.{Configuration, with_actor, with_frames, own_address, blank_object, Around, Move, Overflows, Goes, Writes, Makes, Spawns, Enters, Leaves, given, with_stack, with_slot, with_tasks, pushed, first_frame, push_value, pop, none, with_object}, Evaluation.{evaluate, same_truth, same_value, truth, binary, branch}, Exits.{LoopParts, loop_turn}, Calls.{counted, leave, invoke_kind, string_of, invoke}, Step.{around, frame_move, made, run_frames, leads_to}, Ahead.{by_move, of_frames}}
+use Rattle.pc_semantics.specs.{declared.actors.Actor.Actor, declared.ahead.Ahead.Ahead, declared.frames.Frame.Frame, declared.frames.Task.Task, declared.mailbox.Message.Message, declared.outcome.Outcome.Outcome, declared.outcome.Outcome.TheVariants.Skipped, Configurations.{Configuration, with_actor, with_frames, own_address, blank_object, Around, Move, Overflows, Goes, Writes, Makes, Spawns, Enters, Leaves, given, with_stack, with_slot, with_tasks, pushed, first_frame, push_value, pop, none, with_object}, Evaluation.{evaluate, same_truth, same_value, truth, binary, branch, loop_turn}, Calls.{counted, leave, invoke_kind, string_of, invoke}, Step.{around, frame_move, made, run_frames, leads_to}, Ahead.{by_move, of_frames}}
 use Rattle.pc_semantics.specs.declared.ahead.Ahead.TheVariants as ahead
 use Rattle.pc_semantics.specs.declared.outcome.Lack.TheVariants as lack
 use Rattle.pc_core.specs.declared.declarations.MethodKind.TheVariants as method
@@ -123,14 +123,14 @@ compared f wanted v w = Goes (pushed f (Truth (same_truth wanted (same_value v w
 
 -- ---- what is done next
 
-abbrev pub evaluate_node : CoreData → Frame → ℕ → Option Node → Move
-evaluate_node core f n o = given lack.Value o (λ x. evaluate core f n x.children x.kind)
+abbrev pub evaluate_node : Frame → ℕ → Option Node → Move
+evaluate_node f n o = given lack.Value o (λ x. evaluate f n x.children x.kind)
 
 abbrev pub branch_task : Frame → List ℕ → Move
 branch_task f cs = pop f (truth (branch cs))
 
-abbrev pub loop_task : Frame → ℕ → Option ℕ → LoopParts → Move
-loop_task f n other p = pop f (truth (loop_turn n p other))
+abbrev pub loop_task : Frame → ℕ → List ℕ → Move
+loop_task f n cs = pop f (truth (loop_turn n cs))
 
 -- ---- calls
 

@@ -8,7 +8,6 @@ use Rattle.pc_caps.specs.declared.capability.Form.TheVariants as form
 use Rattle.pc_tree.specs.declared.kinds.EntityKind.TheVariants as kind
 use Rattle.pc_tree.specs.declared.kinds.Op.TheVariants as op
 use Rattle.pc_core.specs.declared.declarations.MethodKind.TheVariants as method
-use Rattle.pc_core.specs.declared.nodes.Mark.TheVariants as mark
 use Rattle.pc_core.specs.declared.nodes.NodeKind.TheVariants as node
 
 -- ---- how they are written
@@ -65,7 +64,6 @@ constructor_of e k params slots body = record {
   receiver = cap.Ref;
   params = params;
   result = (e, form.Tag);
-  partial = false;
   first_slot = 0;
   slots = slots;
   first_node = 0;
@@ -74,7 +72,7 @@ constructor_of e k params slots body = record {
 }
 
 abbrev pub node_of : NodeKind → List ℕ → Node
-node_of k children = record { kind = k; mark = mark.Total; children = children; depth = 0; method = 1; span = nowhere }
+node_of k children = record { kind = k; children = children; depth = 0; method = 1; span = nowhere }
 
 -- A program with only Main: its constructor has this number of slots and these nodes, of which the last is its body.
 abbrev pub main_with : List FieldInfo → ℕ → List Node → CoreData

@@ -1,15 +1,15 @@
 -- One step of an actor, and runs: the steps of a list of actors.
-use Rattle.std.specs.{Prelude.{Option, Some, None, option_map, slice_get, ℕ, zero, List, [], ◌∷◌, ◌++◌, drop, length}, FinMap.insert, Option.option_map_or}
+use Rattle.std.specs.{Prelude.{Option, Some, option_map, slice_get, ℕ, zero, List, [], ◌∷◌, ◌++◌, drop, length}, FinMap.insert, Option.option_map_or}
 use Rattle.pc_heap.specs.{Objects.{with_value, Object}, declared.value.Value.Value, declared.value.Value.TheVariants.{Text, At}}
 use Rattle.pc_core.specs.CoreData.{CoreData}
 use Rattle.pc_base.specs.Lists.{◌>>=◌}
-use Rattle.pc_semantics.specs.{declared.actors.Actor.Actor, declared.frames.Frame.Frame, declared.frames.Task.Task, declared.mailbox.Message.Message, declared.outcome.Lack.Lack, declared.outcome.Outcome.Outcome, declared.outcome.Outcome.TheVariants.{Moved, Skipped, Lacks, TooLong}, Configurations.{Configuration, with_actor, with_frames, own_address, start, Around, Move, Stuck, Overflows, Goes, Writes, Makes, Spawns, Enters, Sends, Leaves, given, none, pop, pushed, doing, with_tasks, first_frame}, Evaluation.{evaluate, apply_task, truth, test_task, branch}, Exits.{condition_task, fails, loop_of, loop_turn}, Calls.{get_task, put_task, store_task, make_task, spawn_task, invoke_task, leave_task}}
+use Rattle.pc_semantics.specs.{declared.actors.Actor.Actor, declared.frames.Frame.Frame, declared.frames.Task.Task, declared.mailbox.Message.Message, declared.outcome.Lack.Lack, declared.outcome.Outcome.Outcome, declared.outcome.Outcome.TheVariants.{Moved, Skipped, Lacks, TooLong}, Configurations.{Configuration, with_actor, with_frames, own_address, start, Around, Move, Stuck, Overflows, Goes, Writes, Makes, Spawns, Enters, Sends, Leaves, given, pop, pushed, with_tasks, first_frame}, Evaluation.{evaluate, apply_task, truth, test_task, branch, loop_turn}, Calls.{get_task, put_task, store_task, make_task, spawn_task, invoke_task, leave}}
 use Rattle.pc_semantics.specs.declared.frames.Task.TheVariants as task
 use Rattle.pc_semantics.specs.declared.outcome.Lack.TheVariants as lack
 
 -- The move of a frame's task, which has been removed from the frame's tasks.
 abbrev pub task_move : CoreData → Around → Frame → Task → Move
-task_move core around f (task.Eval n) = given lack.Value (slice_get core.nodes n) λ x. evaluate core f n x.children x.kind
+task_move core around f (task.Eval n) = given lack.Value (slice_get core.nodes n) λ x. evaluate f n x.children x.kind
 task_move core around f (task.Get n) = given lack.Value (slice_get core.nodes n) λ x. get_task core around f x.kind
 task_move core around f (task.Put n) = given lack.Value (slice_get core.nodes n) λ x. put_task core around f x.kind
 task_move core around f (task.Store n) = given lack.Value (slice_get core.nodes n) λ x. store_task f x.kind
@@ -19,14 +19,9 @@ task_move core around f (task.Invoke n) = given lack.Value (slice_get core.nodes
 task_move core around f (task.Apply n) = given lack.Value (slice_get core.nodes n) λ x. apply_task f x.kind
 task_move core around f (task.Test n) = given lack.Value (slice_get core.nodes n) λ x. test_task f x.children x.kind
 task_move core around f (task.Branch n) = given lack.Value (slice_get core.nodes n) λ x. pop f (truth (branch x.children))
-task_move core around f (task.Loop n) = given lack.Value (loop_of core n) λ p. pop f (truth (loop_turn n p p.other))
-task_move core around f (task.Next n) = given lack.Value (loop_of core n) λ p. pop f (truth (loop_turn n p None))
-task_move core around f (task.Mark n h) = given lack.Value (loop_of core n) λ p. condition_task n p f
-task_move core around f (task.Catch n h) = Goes f
+task_move core around f (task.Loop n) = given lack.Value (slice_get core.nodes n) λ x. pop f (truth (loop_turn n x.children))
 task_move core around f task.Discard = pop f λ v g. Goes g
-task_move core around f task.Blank = pop f λ v g. Goes (pushed g none)
-task_move core around f task.Fail = fails core f
-task_move core around f task.Return = leave_task core f
+task_move core around f task.Return = given lack.Method (slice_get core.methods f.method) λ x. leave f x.kind
 
 -- The move of a frame: that of its first task.
 abbrev pub frame_move : CoreData → Around → Frame → Move
@@ -50,11 +45,10 @@ with_spawned c o m = record {
 abbrev pub with_sent : Configuration → ℕ → Message → Option Configuration
 with_sent c j m = option_map (λ (a : Actor). with_actor c j (record a { mailbox = a.mailbox ++ m ∷ [] })) (slice_get c.actors j)
 
--- The value is left on the stack of the frame below. If there is none, that frame fails.
+-- The value is left on the stack of the frame below.
 abbrev pub left : Option Value → List Frame → List Frame
-left v [] = []
 left (Some v) (f ∷ fs) = pushed f v ∷ fs
-left None (f ∷ fs) = doing f (task.Fail ∷ []) ∷ fs
+left v fs = fs
 
 -- Actor i carries out a move; the frames are those below the one that makes it.
 abbrev pub made : Configuration → ℕ → Actor → List Frame → Move → Outcome × Configuration

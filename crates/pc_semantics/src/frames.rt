@@ -28,22 +28,10 @@ pub enum Task {
     Test(u32),
     /// Look at the condition of this `if`.
     Branch(u32),
-    /// Look at the condition of this loop, before its first turn or after a `continue`: its `else` may follow.
+    /// Look at the condition of this `while`.
     Loop(u32),
-    /// Look at the condition of this loop after a turn: its `else` does not follow.
-    Next(u32),
-    /// The end of a turn of this loop: its condition is next. A `break` or a `continue` of the turn leaves the values on the
-    /// stack above this height.
-    Mark(u32, u32),
-    /// The end of the body of this `try`: nothing is to be done. An error of the body leaves the values on the stack above
-    /// this height.
-    Catch(u32, u32),
     /// Drop the value on the stack.
     Discard,
-    /// Replace the value on the stack by None.
-    Blank,
-    /// Leave what is to be done up to the next `Catch`, or else the method, by an error.
-    Fail,
     /// End the method.
     Return,
 }

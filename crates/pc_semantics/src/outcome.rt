@@ -13,8 +13,6 @@ pub enum Lack {
     Field,
     /// The method, or as many parameters as there are arguments.
     Method,
-    /// Whatever catches an error: it leaves the only method that the actor is in.
-    Catch,
 }
 
 /// How a step of an actor ends.

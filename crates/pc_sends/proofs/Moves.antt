@@ -23,12 +23,7 @@ TaskIn core m (task.Apply n) = NodeIn core m n
 TaskIn core m (task.Test n) = NodeIn core m n
 TaskIn core m (task.Branch n) = NodeIn core m n
 TaskIn core m (task.Loop n) = NodeIn core m n
-TaskIn core m (task.Next n) = NodeIn core m n
-TaskIn core m (task.Mark n h) = NodeIn core m n
-TaskIn core m (task.Catch n h) = NodeIn core m n
 TaskIn core m task.Discard = Unit {0}
-TaskIn core m task.Blank = Unit {0}
-TaskIn core m task.Fail = Unit {0}
 TaskIn core m task.Return = Unit {0}
 
 abbrev pub TasksIn : CoreData → ℕ → List Task → Type 0

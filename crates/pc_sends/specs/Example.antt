@@ -1,5 +1,5 @@
 -- What a small program sends.
-use Rattle.std.specs.Prelude.{◌≡◌, ◌⊎◌, ◌↔◌, ℕ, false, List, [], ◌∷◌, Option, Some, None, codes}
+use Rattle.std.specs.Prelude.{◌≡◌, ◌⊎◌, ◌↔◌, ℕ, List, [], ◌∷◌, Option, Some, None, codes}
 use Rattle.pc_tree.specs.Kinds.{none_entity}
 use Rattle.pc_core.specs.{declared.declarations.EntityDef.EntityDef, declared.declarations.Method.Method, declared.declarations.MethodKind.MethodKind, declared.nodes.Node.Node, declared.nodes.NodeKind.NodeKind, CoreData.CoreData, Entities.nowhere}
 use Rattle.pc_semantics.specs.Programs.{program, create}
@@ -8,7 +8,6 @@ use Rattle.pc_caps.specs.declared.capability.Cap.TheVariants as cap
 use Rattle.pc_caps.specs.declared.capability.Form.TheVariants as form
 use Rattle.pc_tree.specs.declared.kinds.EntityKind.TheVariants as kind
 use Rattle.pc_core.specs.declared.declarations.MethodKind.TheVariants as method
-use Rattle.pc_core.specs.declared.nodes.Mark.TheVariants as mark
 use Rattle.pc_core.specs.declared.nodes.NodeKind.TheVariants as node
 
 -- Names, whose texts do not matter.
@@ -29,7 +28,6 @@ method_of e name k body = record {
   receiver = cap.Ref;
   params = [];
   result = (none_entity, form.Val);
-  partial = false;
   first_slot = 0;
   slots = 1;
   first_node = 0;
@@ -38,7 +36,7 @@ method_of e name k body = record {
 }
 
 abbrev pub node_of : ℕ → NodeKind → List ℕ → Node
-node_of m k children = record { kind = k; mark = mark.Total; children = children; depth = 0; method = m; span = nowhere }
+node_of m k children = record { kind = k; children = children; depth = 0; method = m; span = nowhere }
 
 -- Actor A, entity 6, has the behaviours `go` and `stop` and its constructor, which are methods 1 to 3. Main's
 -- constructor, method 4, is `A().go()`.

@@ -77,7 +77,7 @@ first_push core firsts n k t e =
     ]
 
 alike_itself : (y : Method) → Alike y y
-alike_itself y = record { head = (refl, refl, refl); result = (refl, refl, refl); params = refl }
+alike_itself y = record { head = (refl, refl, refl); result = (refl, refl); params = refl }
 
 pub grouped_none : (core : CoreData) (named : List (List ℕ)) → length named ≡ length core.names → Grouped core 0 (record { firsts = []; entities = []; named = named })
 grouped_none core named names = record {

@@ -7,7 +7,7 @@ use Rattle.pc_base.proofs.Gets.{get_map, map_get}
 use Rattle.pc_sub.specs.Alike.{Alike, param_type}
 
 pub alike_back : (t y : Method) → Alike t y → Alike y t
-alike_back t y a = record { head = (sym a.head.0, sym a.head.1, sym a.head.2); result = (sym a.result.0, sym a.result.1, sym a.result.2); params = sym a.params }
+alike_back t y a = record { head = (sym a.head.0, sym a.head.1, sym a.head.2); result = (sym a.result.0, sym a.result.1); params = sym a.params }
 
 as_many : (ps qs : List ParamInfo) → map param_type ps ≡ map param_type qs → length ps ≡ length qs
 as_many ps qs same = sym (length-map ps param_type) ∙ ap length same ∙ length-map qs param_type
@@ -26,7 +26,6 @@ alike_stands core t y s a f = record {
       subst (λ (k : ℕ × Cap). Chain core p.entity k.0 × IsBelow (unalias p.cap) (unalias k.1)) r.2 (f.params i p g r.0 r.1);
   entity = subst (λ e. Chain core e t.result.0) (sym a.result.0) f.entity;
   form = subst (λ (x : Form). IsBelow x t.result.1) (sym a.result.1) f.form;
-  partial = λ may. f.partial (sym a.result.2 ∙ may);
 }
 
 -- What a method may replace.
@@ -39,7 +38,6 @@ stands_alike core t s y a f = record {
       subst (λ (k : ℕ × Cap). Chain core k.0 q.entity × IsBelow (unalias k.1) (unalias q.cap)) r.2 (f.params i r.0 r.1 q h);
   entity = subst (λ e. Chain core y.result.0 e) (sym a.result.0) f.entity;
   form = subst (λ (x : Form). IsBelow y.result.1 x) (sym a.result.1) f.form;
-  partial = λ may. a.result.2 ∙ f.partial may;
 }
 
 -- What has a method for one has it for the other.

@@ -12,9 +12,9 @@ param_type p = (p.entity, p.cap)
 abbrev pub SameHead : Method → Method → Type 0
 SameHead t y = (y.name ≡ t.name) × (y.kind ≡ t.kind) × (y.receiver ≡ t.receiver)
 
--- They have one result, and both may fail, or neither.
+-- They have one result.
 abbrev pub SameResult : Method → Method → Type 0
-SameResult t y = (y.result.0 ≡ t.result.0) × (y.result.1 ≡ t.result.1) × (y.partial ≡ t.partial)
+SameResult t y = (y.result.0 ≡ t.result.0) × (y.result.1 ≡ t.result.1)
 
 -- And they have as many parameters, of the same types.
 pub record Alike (t y : Method) : Type 0 where

@@ -1,5 +1,5 @@
 -- The declarations of a core that fail, in order.
-use Rattle.std.specs.{Prelude.{ℕ, Bool, false, not, ◌||◌, List, [], ◌∷◌, Option, Some, None, nat_eq, slice_get, ◌+◌, true, ◌&&◌, ◌++◌, if◌then◌else◌}, Option.is_none}
+use Rattle.std.specs.{Prelude.{ℕ, Bool, false, ◌||◌, List, [], ◌∷◌, Option, Some, None, nat_eq, slice_get, ◌+◌, true, ◌&&◌, ◌++◌, if◌then◌else◌}, Option.is_none}
 use Rattle.pc_base.specs.Lists.{◌>>=◌}
 use Rattle.pc_core.specs.{declared.declarations.EntityDef.EntityDef, CoreData.{CoreData, own_methods, method_named}, declared.declarations.Method.Method, declared.declarations.MethodKind.MethodKind, declared.declarations.ParamInfo.ParamInfo}
 use Rattle.pc_caps.specs.{Computed.{is_below, fits}, Tables.{unalias, sendable}}
@@ -41,12 +41,8 @@ takes core t y = fits (unalias t.receiver) y.receiver && params_fit core t.param
 abbrev pub gives : CoreData → Method → Method → Bool
 gives core t y = is_chain core y.result.0 t.result.0 && is_below y.result.1 t.result.1
 
--- Method y may fail only if t may.
-abbrev pub fails_no_more : Method → Method → Bool
-fails_no_more t y = not y.partial || t.partial
-
 abbrev pub stands_for : CoreData → Method → Method → Bool
-stands_for core t y = (takes core t y && gives core t y) && fails_no_more t y
+stands_for core t y = takes core t y && gives core t y
 
 abbrev pub same_kind : MethodKind → MethodKind → Bool
 same_kind method.Fun method.Fun = true

@@ -24,7 +24,6 @@ giving r e k c params = record {
   receiver = c;
   params = params;
   result = (r, form.Val);
-  partial = false;
   first_slot = 0;
   slots = 0;
   first_node = 0;

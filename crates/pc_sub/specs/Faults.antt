@@ -1,7 +1,7 @@
 -- There is no fault iff the declarations fit.
 use Rattle.std.proofs.{Common.{ap, sym, subst, ◌∙◌, arith}, lemmas.Bool.{and_parts, and_from}, lemmas.List.length-map, lemmas.Option.{same_Some, none-some, cond_some}}
 use Rattle.pc_base.proofs.{Gets.{get_below, get_append, get_map, range_get}, Options.bind_some}
-use Rattle.std.specs.Prelude.{◌≡◌, ◌↔◌, ℕ, zero, suc, ◌+◌, ◌-◌, ◌<◌, ◌≤◌, Bool, true, false, not, ◌||◌, cond, List, [], ◌∷◌, ◌++◌, map, length, Option, Some, None, slice_get, refl}
+use Rattle.std.specs.Prelude.{◌≡◌, ◌↔◌, ℕ, zero, suc, ◌+◌, ◌-◌, ◌<◌, ◌≤◌, Bool, true, false, cond, List, [], ◌∷◌, ◌++◌, map, length, Option, Some, None, slice_get, refl}
 use Rattle.pc_caps.specs.{Closure.below_iff, Tables.{unalias, sendable}}
 use Rattle.pc_core.specs.{declared.declarations.EntityDef.EntityDef, declared.declarations.Method.Method, declared.declarations.MethodKind.MethodKind, declared.declarations.ParamInfo.ParamInfo, CoreData.{CoreData, own_methods, method_named, IsMethod}, Parts.{field_name, method_name}, Formed.Formed, Members.{method_among, method_found, method_missed}, Entities.{ParamFits, StandsFor, HasFor, Conforms}}
 use Rattle.pc_base.specs.Lists.{Each, ◌>>=◌}
@@ -106,18 +106,9 @@ each_fit core (p ∷ ps) (q ∷ qs) f l h =
     let m : length qs ≡ length ps = omega (arith, l) in
     and_from _ _ (param_fit core p q f (h 0 p refl q refl)) (each_fit core ps qs f m (λ i r g. h (suc i) r g))
 
-if_partial : (y t : Bool) → (not y || t) ≡ true → y ≡ true → t ≡ true
-if_partial true t e is = e
-if_partial false t e is = absurd (let bad : false ≡ true = is in cc)
-
-not_partial : (y t : Bool) → (y ≡ true → t ≡ true) → (not y || t) ≡ true
-not_partial true t may = may refl
-not_partial false t may = refl
-
 pub stands : (core : CoreData) (t y : Method) → Formed core → conform.stands_for core t y ≡ true → StandsFor core t y
 stands core t y f e =
-    let whole = and_parts _ _ e in
-    let k = and_parts _ _ whole.0 in
+    let k = and_parts _ _ e in
     let a = and_parts _ _ k.0 in
     let b = and_parts _ _ k.1 in
     record {
@@ -126,16 +117,13 @@ stands core t y f e =
       params = fit_each core t.params y.params f a.1;
       entity = (is_chain_iff core y.result.0 t.result.0 f).0 b.0;
       form = (below_iff y.result.1 t.result.1).0 b.1;
-      partial = if_partial y.partial t.partial whole.1;
     }
 
 pub stood : (core : CoreData) (t y : Method) → Formed core → StandsFor core t y → conform.stands_for core t y ≡ true
 stood core t y f s =
     and_from _ _
-    (and_from _ _
     (and_from _ _ ((below_iff (unalias t.receiver) (unalias y.receiver)).1 s.receiver) (each_fit core t.params y.params f s.count s.params))
-    (and_from _ _ ((is_chain_iff core y.result.0 t.result.0 f).1 s.entity) ((below_iff y.result.1 t.result.1).1 s.form)))
-    (not_partial y.partial t.partial s.partial)
+    (and_from _ _ ((is_chain_iff core y.result.0 t.result.0 f).1 s.entity) ((below_iff y.result.1 t.result.1).1 s.form))
 
 -- ---- the entity's method of a name and kind
 

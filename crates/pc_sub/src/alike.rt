@@ -45,17 +45,14 @@ fn same_head(first: &Method, second: &Method) -> bool
     second.name == first.name && second.kind == first.kind && second.receiver == first.receiver
 }
 
-// Whether the two methods have the same result, and both may fail, or neither.
+// Whether the two methods have the same result.
 fn same_result(first: &Method, second: &Method) -> bool
     ensures { IsTrue result ↔ spec.SameResult first.now second.now }
 {
-    second.result.0 == first.result.0
-        && second.result.1 == first.result.1
-        && second.partial == first.partial
+    second.result.0 == first.result.0 && second.result.1 == first.result.1
 }
 
-/// Whether the two methods have the same name, kind, receiver and result, and the same types of parameters, and both may
-/// fail, or neither.
+/// Whether the two methods have the same name, kind, receiver and result, and the same types of parameters.
 pub(crate) fn is_alike(first: &Method, second: &Method) -> bool
     ensures { IsTrue result ↔ spec.Alike first.now second.now }
 {

@@ -35,7 +35,7 @@ module _ (core : CoreData) (objects : ObjectMap) (i k : ℕ) where
   put_kind f (node.SetField name) = same_top f f.stack (λ o g. pop g (put_into core (amid objects i k) name o)) (λ o g. pop g (put_into core (seeing objects) name o)) (λ o g. same_top g g.stack (put_into core (amid objects i k) name o) (put_into core (seeing objects) name o) (put_same name o))
   put_kind f x = refl
 
-  pub for_anyone : (f : Frame) (t : Option Task) → IsInside core t → first_move core (amid objects i k) f t ≡ first_move core (seeing objects) f t
+  pub for_anyone : (f : Frame) (t : Option Task) → IsInside t → first_move core (amid objects i k) f t ≡ first_move core (seeing objects) f t
   for_anyone f None h = absurd h
   for_anyone f (Some (task.Get n)) h = same_node (slice_get core.nodes n) _ _ (λ x. get_kind (relieved f) x.kind)
   for_anyone f (Some (task.Put n)) h = same_node (slice_get core.nodes n) _ _ (λ x. put_kind (relieved f) x.kind)
@@ -43,5 +43,4 @@ module _ (core : CoreData) (objects : ObjectMap) (i k : ℕ) where
   for_anyone f (Some (task.Spawn n)) h = absurd h
   for_anyone f (Some (task.Invoke n)) h = absurd h
   for_anyone f (Some task.Return) h = absurd h
-  for_anyone f (Some task.Fail) h = absurd h
   for_anyone f (Some t) h = refl

@@ -30,12 +30,12 @@ made_inside c i a f fs (Sends j m h) r here e s = absurd (none-some r s)
 made_inside c i a f fs (Leaves v) r here e s = absurd (none-some r s)
 
 -- The first task is run.
-run_first : (core : CoreData) (c : Configuration) (i : ℕ) (a : Actor) (f : Frame) (fs : List Frame) (ts : List Task) → f.tasks ≡ ts → IsInside core (slice_get ts 0) → run_task core c i a f fs ts ≡ made c i a fs (first_move core (around c i) f (slice_get ts 0))
+run_first : (core : CoreData) (c : Configuration) (i : ℕ) (a : Actor) (f : Frame) (fs : List Frame) (ts : List Task) → f.tasks ≡ ts → IsInside (slice_get ts 0) → run_task core c i a f fs ts ≡ made c i a fs (first_move core (around c i) f (slice_get ts 0))
 run_first core c i a f fs [] e h = absurd h
 run_first core c i a f fs (t ∷ ts) e h = ap (λ xs. made c i a fs (task_move core (around c i) (with_tasks f (drop 1 xs)) t)) (sym e)
 
 -- The step of an actor whose innermost frame has a task that stays inside it.
-pub inside_step : (core : CoreData) (c : Configuration) (i : ℕ) (a : Actor) (f g : Frame) (fs : List Frame) (o : Outcome) (objects : ObjectMap) → slice_get c.actors i ≡ Some a → a.frames ≡ f ∷ fs → IsInside core (slice_get f.tasks 0) → StaysInside core c.objects f o objects g → step core c i ≡ (o, with_frames (with_objects c objects) i a (g ∷ fs))
+pub inside_step : (core : CoreData) (c : Configuration) (i : ℕ) (a : Actor) (f g : Frame) (fs : List Frame) (o : Outcome) (objects : ObjectMap) → slice_get c.actors i ≡ Some a → a.frames ≡ f ∷ fs → IsInside (slice_get f.tasks 0) → StaysInside core c.objects f o objects g → step core c i ≡ (o, with_frames (with_objects c objects) i a (g ∷ fs))
 inside_step core c i a f g fs o objects here e h s =
     ap (step_of core c i) here ∙ ap (run_frames core c i a) e
     ∙ run_first core c i a f fs f.tasks refl h

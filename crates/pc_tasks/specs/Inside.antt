@@ -1,29 +1,19 @@
 -- Tasks that stay within one frame and the objects.
-use Rattle.std.specs.{Prelude.{◌≡◌, ℕ, Bool, true, false, Option, Some, None, drop, slice_get}, Option.option_map_or}
+use Rattle.std.specs.Prelude.{◌≡◌, ℕ, Option, Some, None, drop, slice_get}
 use Rattle.pc_heap.specs.Objects.{ObjectMap, with_value}
-use Rattle.pc_core.specs.{CoreData.CoreData, declared.nodes.Node.Node, declared.nodes.NodeKind.NodeKind}
+use Rattle.pc_core.specs.CoreData.{CoreData}
 use Rattle.pc_semantics.specs.{declared.frames.Frame.Frame, declared.frames.Task.Task, declared.outcome.Outcome.Outcome, declared.outcome.Outcome.TheVariants.{Moved, Lacks, TooLong}, Configurations.{Around, Move, Stuck, Overflows, Goes, Writes, with_tasks}, Step.task_move}
-use Rattle.pc_core.specs.declared.nodes.NodeKind.TheVariants as node
 use Rattle.pc_semantics.specs.declared.frames.Task.TheVariants as task
 use Rattle.pc_semantics.specs.declared.outcome.Lack.TheVariants as lack
 
--- The evaluation of a `return` or of an `error` may leave the frame.
-abbrev pub leaves_by : NodeKind → Bool
-leaves_by node.Return = true
-leaves_by node.Error = true
-leaves_by k = false
-
--- There is a first task, and it is not Make, Spawn, Invoke, Return or Fail, nor the evaluation of a node that may leave
--- the frame.
-abbrev pub IsInside : CoreData → Option Task → Type 0
-IsInside core None = ⊥
-IsInside core (Some (task.Eval n)) = option_map_or (λ (x : Node). leaves_by x.kind) (slice_get core.nodes n) false ≡ false
-IsInside core (Some (task.Make n)) = ⊥
-IsInside core (Some (task.Spawn n)) = ⊥
-IsInside core (Some (task.Invoke n)) = ⊥
-IsInside core (Some task.Return) = ⊥
-IsInside core (Some task.Fail) = ⊥
-IsInside core (Some t) = Unit {0}
+-- There is a first task, and it is not Make, Spawn, Invoke or Return.
+abbrev pub IsInside : Option Task → Type 0
+IsInside None = ⊥
+IsInside (Some (task.Make n)) = ⊥
+IsInside (Some (task.Spawn n)) = ⊥
+IsInside (Some (task.Invoke n)) = ⊥
+IsInside (Some task.Return) = ⊥
+IsInside (Some t) = Unit {0}
 
 -- The frame without its first task.
 abbrev pub relieved : Frame → Frame

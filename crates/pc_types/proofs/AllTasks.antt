@@ -1,7 +1,7 @@
 -- Each task preserves what it has to.
 use Rattle.pc_semantics.specs.declared.frames.Task.{Task}
 use Rattle.pc_semantics.specs.declared.frames.Task.TheVariants as task
-use Rattle.pc_types.proofs.{Steps.Keeps, EvalTask.keeps_eval, GetTask.keeps_get, PutTask.keeps_put, StoreTask.keeps_store, MakeTask.keeps_make, SpawnTask.keeps_spawn, InvokeTask.keeps_invoke, ApplyTask.keeps_apply, Choose.{keeps_test, keeps_branch, keeps_discard}, LeaveTask.{keeps_loop, keeps_next, keeps_mark, keeps_catch, keeps_blank, keeps_fail}, ReturnTask.keeps_return}
+use Rattle.pc_types.proofs.{Steps.Keeps, EvalTask.keeps_eval, GetTask.keeps_get, PutTask.keeps_put, StoreTask.keeps_store, MakeTask.keeps_make, SpawnTask.keeps_spawn, InvokeTask.keeps_invoke, ApplyTask.keeps_apply, Choose.{keeps_test, keeps_branch, keeps_loop, keeps_discard}, ReturnTask.keeps_return}
 
 pub keeps : (t : Task) → Keeps t
 keeps (task.Eval n) = keeps_eval n
@@ -15,10 +15,5 @@ keeps (task.Apply n) = keeps_apply n
 keeps (task.Test n) = keeps_test n
 keeps (task.Branch n) = keeps_branch n
 keeps (task.Loop n) = keeps_loop n
-keeps (task.Next n) = keeps_next n
-keeps (task.Mark n h) = keeps_mark n h
-keeps (task.Catch n h) = keeps_catch n h
 keeps task.Discard = keeps_discard
-keeps task.Blank = keeps_blank
-keeps task.Fail = keeps_fail
 keeps task.Return = keeps_return

@@ -1,18 +1,17 @@
 -- The frame of a method that begins can go on.
-use Rattle.std.specs.{Prelude.{◌≡◌, ◌≢◌, ℕ, zero, suc, ◌+◌, ◌-◌, ◌<◌, ◌≤◌, Bool, true, false, not, ◌&&◌, ◌||◌, List, [], ◌∷◌, ◌++◌, map, length, replicate, Option, Some, None, slice_get, refl}, Option.is_none}
+use Rattle.std.specs.Prelude.{◌≡◌, ◌≢◌, ℕ, zero, suc, ◌+◌, ◌-◌, ◌<◌, ◌≤◌, true, ◌&&◌, List, [], ◌∷◌, ◌++◌, map, length, replicate, Option, Some, None, slice_get, refl}
 use Rattle.std.proofs.{Common.{inr, ap, sym, subst, ◌∙◌, arith, length-append}, lemmas.Option.{same_Some, none-some}, lemmas.Bool.and_parts, lemmas.List.{length-map, length-replicate}}
 use Rattle.pc_heap.specs.{Objects.ObjectMap, declared.value.Value.Value}
-use Rattle.pc_core.specs.{declared.declarations.Method.Method, declared.declarations.ParamInfo.ParamInfo, declared.kinds.Exit.Exit, declared.nodes.Node.Node, declared.nodes.NodeKind.NodeKind, CoreData.CoreData}
-use Rattle.pc_core.specs.declared.kinds.Exit.TheVariants as exit
+use Rattle.pc_core.specs.{declared.declarations.Method.Method, declared.declarations.ParamInfo.ParamInfo, declared.nodes.Node.Node, declared.nodes.NodeKind.NodeKind, CoreData.CoreData}
 use Rattle.pc_core.specs.declared.nodes.NodeKind.TheVariants as nodes
-use Rattle.pc_base.proofs.{Options.{bind_some, bind_is, kept}, Bools.false_true}
+use Rattle.pc_base.proofs.Options.{bind_some, kept}
 use Rattle.pc_ann.specs.{declared.annotation.Note.Note, declared.annotation.Ann.Ann}
 use Rattle.pc_masks.specs.{Masks.{first, same}, MaskLaws.first_bits}
 use Rattle.pc_semantics.specs.{Parts.first_slots, Configurations.first_frame}
-use Rattle.pc_rules.specs.{declared.said.Said.Said, Parts.{through, notes_of, one_child}, Control.{start_set, starts_method, result_ok, gives_ok, errors_ok, exits_ok}, Rules.said_by}
-use Rattle.pc_valid.specs.{Words.{Masks, before}, Exits.{exit_of, met, exits_of, raised, stopped, without_at, outside, own_exit}}
+use Rattle.pc_rules.specs.{declared.said.Said.Said, Parts.{through, one_child}, Control.{start_set, starts_method, result_ok}, Rules.said_by}
+use Rattle.pc_valid.specs.Words.{Masks, before}
 use Rattle.pc_rules.proofs.{ByNumber.{body_says, says}, OneRule.body_rule}
-use Rattle.pc_types.proofs.{Types.{OfType, ArgumentsOk, param_type}, Tasks.{ExitsOk, LeavesMethod, BodyOk, tasks_ok}, Frames.{ThisOk, SlotsOk, Held, FrameOk}, Needs.Needs, Notes.{note_at, left_at, same_within}, Exits.left_so}
+use Rattle.pc_types.proofs.{Types.{OfType, ArgumentsOk, param_type}, Tasks.BodyOk, Frames.{ThisOk, SlotsOk, Held, FrameOk}, Needs.Needs, Notes.{note_at, same_within}}
 
 -- ---- arguments
 
@@ -47,13 +46,8 @@ pub record BodyRule (core : CoreData) (ann : Ann) (x : Node) (t : Note) : Type 0
   pub behind : Masks
   pub is_behind : through ann x.children (before t) ≡ Some behind
   pub starts : starts_method core own (before t) ≡ true
-  pub result : note.ends ≡ true → result_ok core own.kind own.result note.ty ≡ true
-  pub exits : exits_ok own note ≡ true
+  pub result : result_ok core own.kind own.result note.ty ≡ true
   pub set : behind.1 ≡ t.set_after
-
-if_ends : (b r : Bool) → (not b || r) ≡ true → b ≡ true → r ≡ true
-if_ends true r e is = e
-if_ends false r e is = absurd (false_true is)
 
 pub body_inverse : (core : CoreData) (ann : Ann) (x : Node) (t : Note) → body_says core ann x (before t) ≡ Some (said_by t) → BodyRule core ann x t
 body_inverse core ann x t e =
@@ -61,9 +55,8 @@ body_inverse core ann x t e =
     let c = bind_some (one_child x.children) _ (said_by t) f.2 in
     let u = bind_some (slice_get ann.notes c.0) _ (said_by t) c.2 in
     let n = bind_some (through ann x.children (before t)) _ (said_by t) u.2 in
-    let k = kept (starts_method core f.0 (before t) && (gives_ok core f.0 u.0 && exits_ok f.0 u.0)) _ (said_by t) n.2 in
-    let p = and_parts (starts_method core f.0 (before t)) (gives_ok core f.0 u.0 && exits_ok f.0 u.0) k.0 in
-    let q = and_parts (gives_ok core f.0 u.0) (exits_ok f.0 u.0) p.1 in
+    let k = kept (starts_method core f.0 (before t) && result_ok core f.0.kind f.0.result u.0.ty) _ (said_by t) n.2 in
+    let p = and_parts (starts_method core f.0 (before t)) (result_ok core f.0.kind f.0.result u.0.ty) k.0 in
     record {
       own = f.0;
       is_own = f.1;
@@ -74,8 +67,7 @@ body_inverse core ann x t e =
       behind = n.0;
       is_behind = n.1;
       starts = p.0;
-      result = λ ends. if_ends u.0.ends (result_ok core f.0.kind f.0.result u.0.ty) q.0 ends;
-      exits = q.1;
+      result = p.1;
       set = ap (λ (q : Said). q.set) (same_Some _ (said_by t) k.1);
     }
 
@@ -84,47 +76,7 @@ module _ (core : CoreData) (ann : Ann) (needs : Needs core ann) where
   body_of x t meets is = body_inverse core ann x t (body_rule core ann x (before t) t.rule (said_by t) (subst (λ (k : NodeKind). says core ann x (before t) t.rule k ≡ Some (said_by t)) is meets))
 
   -- A method's body starts from its start masks.
-  -- Nothing leaves the body of a method, but an error if the method may fail.
-  body_exits : (m n : ℕ) (x : Node) (t : Note) (f : Method) → slice_get core.methods m ≡ Some f → slice_get core.nodes n ≡ Some x → slice_get ann.notes n ≡ Some t → x.kind ≡ nodes.Body → (r : BodyRule core ann x t) → r.own ≡ f → ExitsOk t [] (tasks_ok core ann m [])
-  body_exits m n x t f at is_node is_note kind r own_is y e has =
-      let l = left_at core ann needs n x t is_node is_note in
-      let one : notes_of ann.notes x.children ≡ Some (r.note ∷ []) = ap (notes_of ann.notes) r.children ∙ bind_is (slice_get ann.notes r.child) _ r.note r.is_note in
-      let noted : l.notes ≡ r.note ∷ [] = same_Some l.notes (r.note ∷ []) (sym l.are_notes ∙ one) in
-      let own : exit_of y t ≡ own_exit core t (r.note ∷ []) x y = left_so core t l.notes x l.leaves y ∙ ap (λ (ns : List Note). own_exit core t ns x y) noted in
-      let plain : own_exit core t (r.note ∷ []) x y ≡ met (exit_of y r.note) None = by_kind y in
-      let all : exit_of y r.note ≡ Some e = sym (met_none (exit_of y r.note)) ∙ sym plain ∙ sym own ∙ has in
-      let ok : exits_ok f r.note ≡ true = subst (λ (g : Method). exits_ok g r.note ≡ true) own_is r.exits in
-      goes_out y all ok
-    where
-      met_none : (o : Option Masks) → met o None ≡ o
-      met_none None = refl
-      met_none (Some q) = refl
-
-      at_body : (y : Exit) → outside core nodes.Body x.children (met (raised core t (r.note ∷ []) nodes.Body y) (exits_of y (without_at (stopped nodes.Body y) (r.note ∷ [])))) ≡ met (exit_of y r.note) None
-      at_body exit.Break = refl
-      at_body exit.Continue = refl
-      at_body exit.Error = refl
-
-      by_kind : (y : Exit) → own_exit core t (r.note ∷ []) x y ≡ met (exit_of y r.note) None
-      by_kind y =
-          ap (λ (k : NodeKind). outside core k x.children (met (raised core t (r.note ∷ []) k y) (exits_of y (without_at (stopped k y) (r.note ∷ []))))) kind ∙ at_body y
-
-      none_of : (o : Option Masks) → is_none o ≡ true → o ≡ Some e → ⊥
-      none_of None h is = none-some e is
-      none_of (Some q) h is = false_true h
-
-      may : (p : Bool) (o : Option Masks) → errors_ok p o ≡ true → o ≡ Some e → p ≡ true
-      may true o h is = refl
-      may false o h is = absurd (none_of o h is)
-
-      goes_out : (y : Exit) → exit_of y r.note ≡ Some e → exits_ok f r.note ≡ true → LeavesMethod core m y
-      goes_out exit.Break is ok =
-          none_of r.note.breaks (and_parts (is_none r.note.breaks) (is_none r.note.continues) (and_parts (is_none r.note.breaks && is_none r.note.continues) (errors_ok f.partial r.note.errors) ok).0).0 is
-      goes_out exit.Continue is ok =
-          none_of r.note.continues (and_parts (is_none r.note.breaks) (is_none r.note.continues) (and_parts (is_none r.note.breaks && is_none r.note.continues) (errors_ok f.partial r.note.errors) ok).0).1 is
-      goes_out exit.Error is ok = (f, at, may f.partial r.note.errors (and_parts (is_none r.note.breaks && is_none r.note.continues) (errors_ok f.partial r.note.errors) ok).1 is)
-
-  pub begin_ok : (m b : ℕ) (f : Method) → slice_get core.methods m ≡ Some f → f.body ≡ Some b → BodyOk core ann m (first (1 + length f.params)) (start_set core f) [] b (tasks_ok core ann m [])
+  pub begin_ok : (m b : ℕ) (f : Method) → slice_get core.methods m ≡ Some f → f.body ≡ Some b → BodyOk core ann m (first (1 + length f.params)) (start_set core f) b
   begin_ok m b f at has =
       let y = needs.body m b f at has in
       let t = note_at core ann needs b y.0 y.1 in
@@ -132,7 +84,7 @@ module _ (core : CoreData) (ann : Ann) (needs : Needs core ann) where
       let is : r.own ≡ f = same_Some r.own f (sym r.is_own ∙ ap (slice_get core.methods) y.2 ∙ at) in
       let starts : starts_method core f (before t.0) ≡ true = subst (λ (g : Method). starts_method core g (before t.0) ≡ true) is r.starts in
       let p = and_parts (same t.0.live_before (first (1 + length f.params))) (same t.0.set_before (start_set core f)) starts in
-      record { node = y.0; is_node = y.1; note = t.0; is_note = t.1; own = y.2; is_body = y.3; live = same_within t.0.live_before (first (1 + length f.params)) p.0; set = same_within t.0.set_before (start_set core f) p.1; exits = body_exits m b y.0 t.0 f at y.1 t.1 y.3 r is }
+      record { node = y.0; is_node = y.1; note = t.0; is_note = t.1; own = y.2; is_body = y.3; live = same_within t.0.live_before (first (1 + length f.params)) p.0; set = same_within t.0.set_before (start_set core f) p.1 }
 
   module _ (objects : ObjectMap) (m b : ℕ) (f : Method) (this : Value) (arguments : List Value) (at : slice_get core.methods m ≡ Some f) (has : f.body ≡ Some b) (other : m ≢ 0) (this_ok : ThisOk core objects f (start_set core f) this) (fits : ArgumentsOk core objects arguments f.params) where
     total : (a p n k : ℕ) → a ≡ p → suc p ≤ n → k ≡ n - suc a → suc (a + k) ≡ n

@@ -8,14 +8,13 @@ use Rattle.pc_tree.specs.declared.kinds.MethodWord.TheVariants as word
 use Rattle.pc_tree.proofs.KindFacts.{created}
 use Rattle.pc_core.specs.{declared.declarations.EntityDef.EntityDef, declared.declarations.Method.Method, declared.declarations.MethodKind.MethodKind, declared.declarations.ParamInfo.ParamInfo, declared.nodes.Node.Node, CoreData.CoreData, Methods.StandsIn, Entities.{constructor_kind, word_kind}}
 use Rattle.pc_core.specs.declared.declarations.MethodKind.TheVariants as method
-use Rattle.pc_core.specs.declared.kinds.Exit.TheVariants as exit
 use Rattle.pc_masks.specs.{declared.mask.Mask.Mask, Masks.{IsInMask, empty}, MaskLaws.first_bits}
 use Rattle.pc_ann.specs.{declared.annotation.Note.Note, declared.annotation.Ann.Ann}
 use Rattle.pc_semantics.specs.{declared.frames.Frame.Frame, Configurations.{blank_object, Around, with_stack}}
 use Rattle.pc_rules.specs.{Parts.constructs, Control.start_set, Fields.is_this}
 use Rattle.pc_valid.specs.Words.{Masks}
 use Rattle.pc_base.proofs.Bools.{false_true}
-use Rattle.pc_types.proofs.{Types.{Lower, ArgumentsOk, Want, wanted, StackOk}, Tasks.{Within, Follows, tasks_ok, TasksOk}, Frames.{ThisOk, FrameOk, leaves, WaitOk}, Moves.Runs, Needs.Needs, Basic.{trans_lower, tasks_more}, Begin.arguments_length, Growth.class_is, Heaps.get_here, Running.{fewer_slots, fewer_set, frame_in}}
+use Rattle.pc_types.proofs.{Types.{Lower, ArgumentsOk, Want, wanted, StackOk}, Tasks.{Within, Follows, TasksOk}, Frames.{ThisOk, FrameOk, leaves, WaitOk}, Moves.Runs, Needs.Needs, Basic.{within_trans, trans_lower}, Begin.arguments_length, Growth.class_is, Heaps.get_here, Running.{fewer_slots, fewer_set, frame_in}}
 
 -- ---- masks after a call
 
@@ -106,16 +105,14 @@ plain_want w false e n = ap (λ (own : Bool). record { ty = w.ty; own = own }) e
 
 module _ (core : CoreData) (ann : Ann) (needs : Needs core ann) (around : Around) (f : Frame) (fs : List Frame) (r : Runs core ann around f fs) (x : Node) (t : Note) (below : List Want) (o : Follows core x t below (λ l s g. TasksOk core ann f.method f.tasks l s g)) where
   module _ (vs : List Value) (call : is_this x.kind ≡ true → ⊥) (live : Within t.live_after r.held.live) (set : Within t.set_after r.held.set) (stack : StackOk core around.objects r.held.this below vs) where
-    -- It goes on with a value of what is wanted, and holds what the note states after the node.
+    -- It goes on with a value of what is wanted.
     abbrev pub caller_ok : FrameOk core ann around.objects (wanted o.goal.ty ∷ []) (with_stack f vs)
     caller_ok =
-        frame_in core ann needs around f fs r around.objects (wanted o.goal.ty ∷ []) t.live_after t.set_after below f.slots vs f.tasks refl refl
-        (fewer_set core around.objects r.held.own r.held.set t.set_after r.held.this set r.held.this_ok)
-        (fewer_slots core ann around.objects r.held.own r.held.live t.live_after f.slots live r.held.slots_ok) stack
-        (subst (λ (w : Want). TasksOk core ann f.method f.tasks t.live_after t.set_after (w ∷ below)) (plain_want o.goal o.goal.own refl (λ h. call (o.this h)))
-        (tasks_more core ann f.method f.tasks o.live o.set t.live_after t.set_after (o.goal ∷ below) o.live_left o.set_left o.next))
+        frame_in core ann needs around f fs r around.objects (wanted o.goal.ty ∷ []) o.live o.set below f.slots vs f.tasks refl refl
+        (fewer_set core around.objects r.held.own r.held.set o.set r.held.this (within_trans o.set t.set_after r.held.set o.set_left set) r.held.this_ok)
+        (fewer_slots core ann around.objects r.held.own r.held.live o.live f.slots (within_trans o.live t.live_after r.held.live o.live_left live) r.held.slots_ok) stack
+        (subst (λ (w : Want). TasksOk core ann f.method f.tasks o.live o.set (w ∷ below)) (plain_want o.goal o.goal.own refl (λ h. call (o.this h))) o.next)
 
-    -- It and the frames below it wait for what method m leaves, or for its error.
-    pub waits_ok : (m : ℕ) (own : Method) (this : Value) → slice_get core.methods m ≡ Some own → leaves own.kind ≡ true → Lower core (Some own.result) t.ty
-        → (own.partial ≡ true → (tasks_ok core ann f.method f.tasks).out exit.Error t.live_after t.set_after below) → WaitOk core ann around.objects around.actor m this (with_stack f vs ∷ fs)
-    waits_ok m own this at gives low fails = (own, at, gives, o.goal.ty, trans_lower core ann needs (Some own.result) t.ty o.goal.ty low o.fits, caller_ok, fails, r.wait)
+    -- It and the frames below it wait for what method m leaves.
+    pub waits_ok : (m : ℕ) (own : Method) (this : Value) → slice_get core.methods m ≡ Some own → leaves own.kind ≡ true → Lower core (Some own.result) t.ty → WaitOk core ann around.objects around.actor m this (with_stack f vs ∷ fs)
+    waits_ok m own this at gives low = (own, at, gives, o.goal.ty, trans_lower core ann needs (Some own.result) t.ty o.goal.ty low o.fits, caller_ok, r.wait)

@@ -55,7 +55,6 @@ stands_itself core f = record {
   params = λ i p g q h. subst (ParamFits core p) (same_Some p q (sym g ∙ h)) (fits_itself core p);
   entity = inl refl;
   form = same;
-  partial = λ may. may;
 }
 
 fits_on : (core : CoreData) (p q r : ParamInfo) → ParamFits core p q → ParamFits core q r → ParamFits core p r
@@ -70,7 +69,6 @@ stands_on core t y z a b = record {
       fits_on core p q.0 r (a.params i p g q.0 q.1) (b.params i q.0 q.1 r h);
   entity = chain_on core z.result.0 y.result.0 t.result.0 b.entity a.entity;
   form = below_trans _ _ _ b.form a.form;
-  partial = λ may. a.partial (b.partial may);
 }
 
 -- ---- methods by their names

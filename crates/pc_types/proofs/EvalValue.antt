@@ -12,7 +12,7 @@ use Rattle.pc_ann.specs.declared.annotation.Ann.{Ann}
 use Rattle.pc_semantics.specs.{declared.frames.Frame.Frame, Configurations.{Around, Goes, pushed}, Parts.{push_slot, take_slot}}
 use Rattle.pc_rules.specs.{Parts.{all_fields, full, constructs, reachable}, Fields.is_this, Values.this_form}
 use Rattle.pc_valid.specs.Words.{Ty, before}
-use Rattle.pc_types.proofs.{Types.{sees, Finished, OfType, OfSome, held_in}, Tasks.{Within, EndsOk, TasksOk}, Frames.SlotsOk, Moves.{MoveOk, Runs}, Needs.Needs, Basic.{within_trans, of_lower, some_lower}, Notes.{slot_at, names_fit}, AllFields.all_set, Places.taken_lower, Running.{go_ok, push_ok}, Inverse.{Says, Used, ThisRule, LocalRule, ConsumeRule}}
+use Rattle.pc_types.proofs.{Types.{sees, Finished, OfType, OfSome, held_in}, Tasks.{Within, EvalOk, TasksOk}, Frames.SlotsOk, Moves.{MoveOk, Runs}, Needs.Needs, Basic.{within_trans, of_lower, some_lower}, Notes.{slot_at, names_fit}, AllFields.all_set, Places.taken_lower, Running.{go_ok, push_ok}, Inverse.{Says, Used, ThisRule, LocalRule, ConsumeRule}}
 
 -- ---- forms
 
@@ -23,7 +23,7 @@ form_cases false f h = absurd (false_true h)
 pub not_zero : (s : ℕ) → 0 < s → 0 ≢ s
 not_zero s l e = absurd (omega (arith, l, e))
 
-module _ (core : CoreData) (ann : Ann) (needs : Needs core ann) (around : Around) (f : Frame) (fs : List Frame) (r : Runs core ann around f fs) (n : ℕ) (e : EndsOk core ann f.method r.held.live r.held.set r.held.wants n (λ l s g. TasksOk core ann f.method f.tasks l s g)) where
+module _ (core : CoreData) (ann : Ann) (needs : Needs core ann) (around : Around) (f : Frame) (fs : List Frame) (r : Runs core ann around f fs) (n : ℕ) (e : EvalOk core ann f.method r.held.live r.held.set r.held.wants n (λ l s g. TasksOk core ann f.method f.tasks l s g)) where
   -- A value of the note's type, by a node that leaves slots and fields as they are.
   leaf_ok : (ty : Ty) (v : Value) → Says e.note (Some ty) (before e.note) → OfType core around.objects ty v → (is_this e.node.kind ≡ true → v ≡ r.held.this) → MoveOk core ann around fs (Goes (pushed f v))
   leaf_ok ty v s t own =

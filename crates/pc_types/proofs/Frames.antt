@@ -1,18 +1,17 @@
 -- When the frames of an actor can go on: the contents of their slots and stacks have the right types, their tasks can
--- be done, and each frame except the top waits for what the one above it leaves, or for its error. An idle actor's object has all its
+-- be done, and each frame except the top waits for what the one above it leaves. An idle actor's object has all its
 -- fields.
 use Rattle.std.specs.{Prelude.{◌≡◌, ℕ, ◌+◌, ◌<◌, Bool, true, false, List, [], ◌∷◌, ◌++◌, length, Option, Some, slice_get}, FinMap.get}
 use Rattle.pc_heap.specs.{Objects.{ObjectMap, Object}, declared.value.Value.Value, declared.value.Value.TheVariants.At}
 use Rattle.pc_caps.specs.{Tables.plain, declared.capability.Cap.Cap}
 use Rattle.pc_core.specs.{declared.declarations.Method.Method, declared.declarations.MethodKind.MethodKind, CoreData.CoreData}
 use Rattle.pc_core.specs.declared.declarations.MethodKind.TheVariants as method
-use Rattle.pc_core.specs.declared.kinds.Exit.TheVariants as exit
 use Rattle.pc_masks.specs.{declared.mask.Mask.Mask, Masks.IsInMask}
 use Rattle.pc_ann.specs.declared.annotation.Ann.{Ann}
 use Rattle.pc_semantics.specs.{declared.frames.Frame.Frame, Configurations.{own_address, value_entity}}
 use Rattle.pc_rules.specs.Parts.{constructs}
 use Rattle.pc_valid.specs.Words.{Ty}
-use Rattle.pc_types.proofs.{Types.{sees, Finished, OfKind, OfType, held_in, Lower, Want, wanted, StackOk}, Tasks.{tasks_ok, TasksOk}}
+use Rattle.pc_types.proofs.{Types.{sees, Finished, OfKind, OfType, held_in, Lower, Want, wanted, StackOk}, Tasks.TasksOk}
 
 -- ---- the object of a frame
 
@@ -71,15 +70,13 @@ LastOk objects i method.Be this = Finished objects (At (own_address i))
 LastOk objects i method.Spawn this = this ≡ At (own_address i)
 LastOk objects i k this = ⊥
 
--- The frames below one of method m wait for what it leaves, and for an error if the method may fail.
+-- The frames below one of method m wait for what it leaves.
 abbrev pub WaitOk : CoreData → Ann → ObjectMap → ℕ → ℕ → Value → List Frame → Type 0
 WaitOk core ann objects i m this [] = (x : Method) × (slice_get core.methods m ≡ Some x) × LastOk objects i x.kind this
 WaitOk core ann objects i m this (f ∷ fs) =
     (x : Method) × (slice_get core.methods m ≡ Some x) × (leaves x.kind ≡ true)
     × (goal : Option Ty) × Lower core (Some x.result) goal
-    × (k : FrameOk core ann objects (wanted goal ∷ []) f)
-    × (x.partial ≡ true → (tasks_ok core ann f.method f.tasks).out exit.Error k.0.live k.0.set k.0.wants)
-    × WaitOk core ann objects i f.method k.0.this fs
+    × (k : FrameOk core ann objects (wanted goal ∷ []) f) × WaitOk core ann objects i f.method k.0.this fs
 
 abbrev pub FramesOk : CoreData → Ann → ObjectMap → ℕ → List Frame → Type 0
 FramesOk core ann objects i [] = Finished objects (At (own_address i))

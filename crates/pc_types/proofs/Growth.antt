@@ -122,7 +122,7 @@ module _ (old new : ObjectMap) (x : Extends old new) where
 
       pub wait_kept : (i m : ℕ) (this : Value) (fs : List Frame) → WaitOk core ann old i m this fs → WaitOk core ann new i m this fs
       wait_kept i m this [] w = (w.0, w.1, last_kept i w.0.kind this w.2)
-      wait_kept i m this (f ∷ fs) w = (w.0, w.1, w.2, w.3, w.4, frame_kept (wanted w.3 ∷ []) f w.5, w.6, wait_kept i f.method w.5.0.this fs w.7)
+      wait_kept i m this (f ∷ fs) w = (w.0, w.1, w.2, w.3, w.4, frame_kept (wanted w.3 ∷ []) f w.5, wait_kept i f.method w.5.0.this fs w.6)
 
       pub frames_kept : (i : ℕ) (fs : List Frame) → FramesOk core ann old i fs → FramesOk core ann new i fs
       frames_kept i [] k = finished_kept (At (own_address i)) k

@@ -6,12 +6,12 @@ use Rattle.pc_caps.specs.declared.capability.Form.TheVariants as form
 use Rattle.pc_core.specs.{declared.declarations.Method.Method, declared.nodes.Slot.Slot, declared.nodes.Node.Node, CoreData.CoreData}
 use Rattle.pc_core.specs.declared.nodes.NodeKind.TheVariants as nodes
 use Rattle.pc_base.proofs.{Options.{bind_some, kept}, Bools.false_true}
-use Rattle.pc_masks.specs.{declared.mask.Mask.Mask, Masks.{has, without_number}}
+use Rattle.pc_masks.specs.{declared.mask.Mask.Mask, Masks.{has, without_number, within, same}}
 use Rattle.pc_ann.specs.{declared.annotation.Note.Note, declared.annotation.Ann.Ann, declared.annotation.Rule.Rule}
 use Rattle.pc_ann.specs.declared.annotation.Rule.TheVariants as rule
-use Rattle.pc_rules.specs.{declared.said.Said.Said, Parts.{says_of, reads_as, readable, reachable, through, type_of, notes_of, one_child, last_child}, Values.this_form, Operators.{both_read_as, meet_masks}, Control.{all_but_last_end, seq_live, joined_ends, is_condition, recovered}, Rules.said_by}
+use Rattle.pc_rules.specs.{declared.said.Said.Said, Parts.{says_of, reads_as, readable, reachable, through, type_of, one_child, last_child}, Values.this_form, Operators.{both_read_as, meet_masks}, Control.{without_items, joined, is_condition, recovered}, Rules.said_by}
 use Rattle.pc_valid.specs.Words.{Ty, Masks, before}
-use Rattle.pc_rules.proofs.ByNumber.{slot_of, two_children, three_children, two_types, this_says, used, lazy_masks, lazy_says, branch_masks, branch_notes, seq_says, if_says, recover_says, says}
+use Rattle.pc_rules.proofs.ByNumber.{slot_of, two_children, three_children, two_types, this_says, used, lazy_masks, lazy_says, branch_masks, branch_types, loop_masks, seq_says, if_says, while_says, recover_says, says}
 use Rattle.pc_types.proofs.Begin.{only_one}
 
 -- ---- children
@@ -220,20 +220,20 @@ module _ (core : CoreData) (ann : Ann) (x : Node) (t : Note) where
     pub is_then_note : slice_get ann.notes then_branch ≡ Some then_note
     pub else_note : Note
     pub is_else_note : slice_get ann.notes else_branch ≡ Some else_note
-    pub says : Says t (joined_ends core then_note else_note) (meet_masks behind_then behind_else)
+    pub says : Says t (joined core then_note.ty else_note.ty) (meet_masks behind_then behind_else)
 
   if_is : if_says core ann x (before t) ≡ Some (said_by t) → IfRule
   if_is e =
       let c = bind_some (three_children x.children) _ (said_by t) e in
       let n = bind_some (branch_masks ann c.0 (before t)) _ (said_by t) c.2 in
-      let ts = bind_some (branch_notes ann c.0) _ (said_by t) n.2 in
-      let k = kept (is_condition (type_of ann c.0.0)) (Some (says_of (joined_ends core ts.0.0 ts.0.1) n.0)) (said_by t) ts.2 in
+      let ts = bind_some (branch_types ann c.0) _ (said_by t) n.2 in
+      let k = kept (is_condition (type_of ann c.0.0)) (Some (says_of (joined core ts.0.0 ts.0.1) n.0)) (said_by t) ts.2 in
       let m = bind_some (through ann (c.0.0 ∷ []) (before t)) _ n.0 n.1 in
       let a = bind_some (through ann (c.0.1 ∷ []) m.0) _ n.0 m.2 in
       let b = bind_some (through ann (c.0.2 ∷ []) m.0) _ n.0 a.2 in
       let u = bind_some (slice_get ann.notes c.0.1) _ ts.0 ts.1 in
       let v = bind_some (slice_get ann.notes c.0.2) _ ts.0 u.2 in
-      let notes : ◌≡◌ {A = Note × Note} (u.0, v.0) ts.0 = same_Some (u.0, v.0) ts.0 v.2 in
+      let types : ◌≡◌ {A = Option Ty × Option Ty} (u.0.ty, v.0.ty) ts.0 = same_Some (u.0.ty, v.0.ty) ts.0 v.2 in
       let masks : meet_masks a.0 b.0 ≡ n.0 = same_Some (meet_masks a.0 b.0) n.0 b.2 in
       record {
         condition = c.0.0;
@@ -251,12 +251,53 @@ module _ (core : CoreData) (ann : Ann) (x : Node) (t : Note) where
         is_then_note = u.1;
         else_note = v.0;
         is_else_note = v.1;
-        says = said_as t (joined_ends core u.0 v.0) (joined_ends core ts.0.0 ts.0.1) (meet_masks a.0 b.0) n.0 (ap (λ (p : Note × Note). joined_ends core p.0 p.1) notes) masks k.1;
+        says = said_as t (joined core u.0.ty v.0.ty) (joined core ts.0.0 ts.0.1) (meet_masks a.0 b.0) n.0 (ap (λ (p : Option Ty × Option Ty). joined core p.0 p.1) types) masks k.1;
       }
 
   pub if_rule : (r : Rule) → says core ann x (before t) r nodes.If ≡ Some (said_by t) → IfRule
   if_rule rule.If e = if_is e
   if_rule r e = absurd (none-some (said_by t) e)
+
+  -- A condition, and a body that comes back to before the condition.
+  pub record WhileRule : Type 0 where
+    pub condition : ℕ
+    pub body : ℕ
+    pub children : x.children ≡ condition ∷ body ∷ []
+    pub is_condition : is_condition (type_of ann condition) ≡ true
+    pub behind : Masks
+    pub is_behind : through ann (condition ∷ []) (before t) ≡ Some behind
+    pub behind_body : Masks
+    pub is_body : through ann (body ∷ []) behind ≡ Some behind_body
+    pub keeps_live : within t.live_before behind_body.0 ≡ true
+    pub keeps_set : same behind_body.1 t.set_before ≡ true
+    pub says : Says t (Some (0, form.Val)) behind
+
+  while_is : while_says ann x (before t) ≡ Some (said_by t) → WhileRule
+  while_is e =
+      let c = bind_some (two_children x.children) _ (said_by t) e in
+      let n = bind_some (loop_masks ann c.0 (before t)) _ (said_by t) c.2 in
+      let k = kept (is_condition (type_of ann c.0.0)) (Some (says_of (Some (0, form.Val)) n.0)) (said_by t) n.2 in
+      let a = bind_some (through ann (c.0.0 ∷ []) (before t)) _ n.0 n.1 in
+      let b = bind_some (through ann (c.0.1 ∷ []) a.0) _ n.0 a.2 in
+      let l = kept (within t.live_before b.0.0 && same b.0.1 t.set_before) (Some a.0) n.0 b.2 in
+      let p = and_parts (within t.live_before b.0.0) (same b.0.1 t.set_before) l.0 in
+      record {
+        condition = c.0.0;
+        body = c.0.1;
+        children = pair_is x.children c.0 c.1;
+        is_condition = k.0;
+        behind = a.0;
+        is_behind = a.1;
+        behind_body = b.0;
+        is_body = b.1;
+        keeps_live = p.0;
+        keeps_set = p.1;
+        says = said_as t (Some (0, form.Val)) (Some (0, form.Val)) a.0 n.0 refl (same_Some a.0 n.0 l.1) k.1;
+      }
+
+  pub while_rule : (r : Rule) → says core ann x (before t) r nodes.While ≡ Some (said_by t) → WhileRule
+  while_rule rule.While e = while_is e
+  while_rule r e = absurd (none-some (said_by t) e)
 
   -- Items, one after another.
   pub record SeqRule : Type 0 where
@@ -266,16 +307,14 @@ module _ (core : CoreData) (ann : Ann) (x : Node) (t : Note) where
     pub is_note : slice_get ann.notes last ≡ Some note
     pub behind : Masks
     pub is_behind : through ann x.children (before t) ≡ Some behind
-    pub says : Says t note.ty (seq_live core x.children note behind.0, behind.1)
+    pub says : Says t note.ty (without_items core x.children behind.0, behind.1)
 
   seq_is : seq_says core ann x (before t) ≡ Some (said_by t) → SeqRule
   seq_is e =
       let c = bind_some (last_child x.children) _ (said_by t) e in
       let u = bind_some (slice_get ann.notes c.0) _ (said_by t) c.2 in
       let n = bind_some (through ann x.children (before t)) _ (said_by t) u.2 in
-      let ns = bind_some (notes_of ann.notes x.children) _ (said_by t) n.2 in
-      let k = kept (all_but_last_end ns.0) (Some (says_of u.0.ty (seq_live core x.children u.0 n.0.0, n.0.1))) (said_by t) ns.2 in
-      record { last = c.0; is_last = c.1; note = u.0; is_note = u.1; behind = n.0; is_behind = n.1; says = says_is t u.0.ty (seq_live core x.children u.0 n.0.0, n.0.1) k.1 }
+      record { last = c.0; is_last = c.1; note = u.0; is_note = u.1; behind = n.0; is_behind = n.1; says = says_is t u.0.ty (without_items core x.children n.0.0, n.0.1) n.2 }
 
   pub seq_rule : (r : Rule) → says core ann x (before t) r nodes.Seq ≡ Some (said_by t) → SeqRule
   seq_rule rule.Seq e = seq_is e

@@ -9,9 +9,9 @@ use Rattle.pc_core.specs.declared.nodes.NodeKind.TheVariants as nodes
 use Rattle.pc_base.proofs.{Options.{bind_some, kept}, Bools.false_true}
 use Rattle.pc_ann.specs.{declared.annotation.Note.Note, declared.annotation.Ann.Ann, declared.annotation.Rule.Rule}
 use Rattle.pc_ann.specs.declared.annotation.Rule.TheVariants as rule
-use Rattle.pc_rules.specs.{declared.said.Said.Said, Parts.{says_of, through, type_of, one_child, last_child, readable, reads_as}, Calls.{is_function, is_behaviour, is_isolated, is_lent, lends, recovered_result, same_text, has_text, has_string, mark_fits, no_question}, Rules.said_by}
+use Rattle.pc_rules.specs.{declared.said.Said.Said, Parts.{says_of, through, type_of, one_child, last_child, readable, reads_as}, Calls.{is_function, is_behaviour, is_isolated, is_lent, lends, recovered_result, same_text, has_text, has_string}, Rules.said_by}
 use Rattle.pc_valid.specs.Words.{Ty, Masks, before}
-use Rattle.pc_rules.proofs.{ByNumber.{arguments, arguments_go, arguments_sendable, called, calls, recovers, sends, new_says, spawn_says, call_says, callrecover_says, send_says, builtin_says, says, IsSaid}, OneRule.kept_marked}
+use Rattle.pc_rules.proofs.ByNumber.{arguments, arguments_go, arguments_sendable, called, calls, recovers, sends, new_says, spawn_says, call_says, callrecover_says, send_says, builtin_says, says, IsSaid}
 use Rattle.pc_types.proofs.{Types.{sees, Lower}, Basic.lower_same, Begin.only_one, Inverse.says_is, Tables.fits_sees}
 
 -- ---- the rule of a constructor, and those of a call
@@ -69,14 +69,14 @@ new_inverse : (core : CoreData) (ann : Ann) (x : Node) (k : ℕ) (t : Note) → 
 new_inverse core ann x k t e =
     let f = bind_some (slice_get core.methods k) _ (said_by t) e in
     let n = bind_some (through ann x.children (before t)) _ (said_by t) f.2 in
-    let p = kept_marked (arguments_go core ann x.children f.0.params) (mark_fits x.mark f.0) (Some (says_of (Some f.0.result) n.0)) (said_by t) n.2 in
+    let p = kept (arguments_go core ann x.children f.0.params) (Some (says_of (Some f.0.result) n.0)) (said_by t) n.2 in
     record { own = f.0; is_own = f.1; behind = n.0; is_behind = n.1; goes = p.0; ty_is = said_ty t (Some f.0.result) n.0 p.1; live = said_live t (Some f.0.result) n.0 p.1; set = said_set t (Some f.0.result) n.0 p.1 }
 
 spawn_inverse : (core : CoreData) (ann : Ann) (x : Node) (k : ℕ) (t : Note) → spawn_says core ann x k (before t) ≡ Some (said_by t) → MakesRule core ann x k t actor_of
 spawn_inverse core ann x k t e =
     let f = bind_some (slice_get core.methods k) _ (said_by t) e in
     let n = bind_some (through ann x.children (before t)) _ (said_by t) f.2 in
-    let p = kept_marked (arguments_go core ann x.children f.0.params) (mark_fits x.mark f.0) (Some (says_of (Some (actor_of f.0)) n.0)) (said_by t) n.2 in
+    let p = kept (arguments_go core ann x.children f.0.params) (Some (says_of (Some (actor_of f.0)) n.0)) (said_by t) n.2 in
     record { own = f.0; is_own = f.1; behind = n.0; is_behind = n.1; goes = p.0; ty_is = said_ty t (Some (actor_of f.0)) n.0 p.1; live = said_live t (Some (actor_of f.0)) n.0 p.1; set = said_set t (Some (actor_of f.0)) n.0 p.1 }
 
 -- ---- calls
@@ -190,7 +190,7 @@ module _ (core : CoreData) (ann : Ann) (x : Node) (name : ℕ) (t : Note) where
       let i = bind_some (called core ann x name) _ (said_by t) e in
       let f = bind_some (slice_get core.methods i.0.1) _ (said_by t) i.2 in
       let n = bind_some (through ann x.children (before t)) _ (said_by t) f.2 in
-      let p = kept_marked (calls core ann x i.0.0 f.0) (mark_fits x.mark f.0) (Some (says_of (Some f.0.result) n.0)) (said_by t) n.2 in
+      let p = kept (calls core ann x i.0.0 f.0) (Some (says_of (Some f.0.result) n.0)) (said_by t) n.2 in
       let a = and_parts (is_function f.0.kind) (arguments_go core ann (arguments x.children) f.0.params && fits i.0.0.1 f.0.receiver) p.0 in
       let b = and_parts (arguments_go core ann (arguments x.children) f.0.params) (fits i.0.0.1 f.0.receiver) a.1 in
       record {
@@ -205,7 +205,7 @@ module _ (core : CoreData) (ann : Ann) (x : Node) (name : ℕ) (t : Note) where
       let i = bind_some (called core ann x name) _ (said_by t) e in
       let f = bind_some (slice_get core.methods i.0.1) _ (said_by t) i.2 in
       let n = bind_some (through ann x.children (before t)) _ (said_by t) f.2 in
-      let p = kept_marked (recovers core ann x i.0.0 f.0) (mark_fits x.mark f.0) (Some (says_of (recovered_result f.0.result) n.0)) (said_by t) n.2 in
+      let p = kept (recovers core ann x i.0.0 f.0) (Some (says_of (recovered_result f.0.result) n.0)) (said_by t) n.2 in
       let a = and_parts (is_function f.0.kind && arguments_go core ann (arguments x.children) f.0.params) (lends i.0.0.1 f.0.receiver && arguments_sendable ann (arguments x.children) f.0.params) p.0 in
       let b = and_parts (is_function f.0.kind) (arguments_go core ann (arguments x.children) f.0.params) a.0 in
       let l = and_parts (lends i.0.0.1 f.0.receiver) (arguments_sendable ann (arguments x.children) f.0.params) a.1 in
@@ -223,7 +223,7 @@ module _ (core : CoreData) (ann : Ann) (x : Node) (name : ℕ) (t : Note) where
       let i = bind_some (called core ann x name) _ (said_by t) e in
       let f = bind_some (slice_get core.methods i.0.1) _ (said_by t) i.2 in
       let n = bind_some (through ann x.children (before t)) _ (said_by t) f.2 in
-      let p = kept_marked (sends core ann x f.0) (mark_fits x.mark f.0) (Some (says_of (Some (0, form.Val)) n.0)) (said_by t) n.2 in
+      let p = kept (sends core ann x f.0) (Some (says_of (Some (0, form.Val)) n.0)) (said_by t) n.2 in
       let a = and_parts (is_behaviour f.0.kind) (arguments_go core ann (arguments x.children) f.0.params) p.0 in
       record { by = called_of i.0 f.0 n.0 (Some (0, form.Val)) i.1 f.1 n.1 a.1 p.1; kind = behaviour_is f.0.kind a.0; ty = said_ty t (Some (0, form.Val)) n.0 p.1 }
 
@@ -233,7 +233,7 @@ module _ (core : CoreData) (ann : Ann) (x : Node) (name : ℕ) (t : Note) where
       let v = bind_some (type_of ann c.0) _ (said_by t) c.2 in
       let s = bind_some (slice_get core.names name) _ (said_by t) v.2 in
       let n = bind_some (through ann x.children (before t)) _ (said_by t) s.2 in
-      let p = kept_marked (has_string s.0 v.0) (no_question x.mark) (Some (says_of (Some (3, form.Val)) n.0)) (said_by t) n.2 in
+      let p = kept (has_string s.0 v.0) (Some (says_of (Some (3, form.Val)) n.0)) (said_by t) n.2 in
       let a = and_parts (same_text s.0 (codes "string")) (has_text v.0) p.0 in
       record {
         child = c.0;

@@ -1,23 +1,22 @@
 -- A call by the receiver's own entity: a function begins, a behaviour's message is sent, and `string` gives a text.
-use Rattle.std.specs.{Prelude.{◌≡◌, ◌≢◌, ℕ, ◌+◌, ◌-◌, ◌<◌, true, false, List, ◌∷◌, Option, Some, None, length, slice_get, decimal, refl}, Option.option_map_or}
+use Rattle.std.specs.Prelude.{◌≡◌, ◌≢◌, ℕ, ◌+◌, ◌-◌, ◌<◌, true, List, ◌∷◌, Option, Some, None, length, slice_get, decimal, refl}
 use Rattle.std.proofs.{Common.{inl, inr, ap, sym, subst, ◌∙◌, arith}, lemmas.Option.same_Some, lemmas.Bool.{eq-eqb, lt-ltb}}
 use Rattle.pc_heap.specs.{Objects.{ObjectMap, class_at}, declared.value.Address.Address, declared.value.Value.Value, declared.value.Value.TheVariants.Text}
 use Rattle.pc_caps.specs.declared.capability.Form.TheVariants as form
 use Rattle.pc_tree.specs.declared.kinds.EntityKind.TheVariants as kind
 use Rattle.pc_core.specs.{declared.declarations.EntityDef.EntityDef, declared.declarations.Method.Method, declared.nodes.NodeKind.NodeKind, CoreData.{CoreData, own_methods, method_named}, Parts.method_name}
 use Rattle.pc_core.specs.declared.declarations.MethodKind.TheVariants as method
-use Rattle.pc_core.specs.declared.kinds.Exit.TheVariants as exit
 use Rattle.pc_core.specs.declared.nodes.NodeKind.TheVariants as nodes
 use Rattle.pc_tree.specs.Kinds.{may_have_fields}
 use Rattle.pc_base.specs.Lists.{place_of}
-use Rattle.pc_base.proofs.{Options.{bind_some, bind_is}, Lookup.place_found, Gets.get_range, Bools.false_true}
-use Rattle.pc_ann.specs.{declared.annotation.Note.Note, declared.annotation.Ann.Ann}
+use Rattle.pc_base.proofs.{Options.bind_some, Lookup.place_found, Gets.get_range, Bools.false_true}
+use Rattle.pc_ann.specs.declared.annotation.Ann.{Ann}
 use Rattle.pc_semantics.specs.{declared.frames.Frame.Frame, Configurations.{own_address, Around, none, value_entity}, Calls.invoke_task, Parts.truth_text}
 use Rattle.pc_semantics.specs.declared.frames.Task.TheVariants as task
-use Rattle.pc_rules.specs.{Parts.{through, notes_of, constructs}, Control.start_set, Fields.is_this}
-use Rattle.pc_valid.specs.{Words.{Ty, before, last}, Exits.{called_method, may_fail}}
+use Rattle.pc_rules.specs.{Parts.{through, constructs}, Control.start_set, Fields.is_this}
+use Rattle.pc_valid.specs.Words.{Ty, before}
 use Rattle.pc_rules.proofs.ByNumber.{arguments}
-use Rattle.pc_types.proofs.{Types.{OfKind, OfType, OfSome, ArgumentsOk, LowerType, Want, StackOk}, Tasks.{want_of, stacked, FinishOk, invokes, tasks_ok, TasksOk}, Frames.{ThisOk, leaves}, Typed.ObjectsOk, Moves.{MoveOk, Runs}, Needs.{Declared, Needs}, Basic.trans_lower, Notes.{meets, left_at}, EvalChildren.last_note_is, Tables.{unalias_sees, order_sees}, Values.{top_is, is_number, is_truth, is_address, own_no_trait}, Begin.first_ok, Growth.object_of, Running.push_ok, InverseCalls.{CalledRule, FunctionRule, SendRule, TextRule, call_of}, Popped.{Popped, popped_is, take_arguments, arguments_lower, receiver_last, arguments_count, stacked_last}, Callers.{left_within, counts, actor_of_be, not_print, waits_ok}, Steps.Keeps}
+use Rattle.pc_types.proofs.{Types.{OfKind, OfType, OfSome, ArgumentsOk, LowerType, Want, StackOk}, Tasks.{want_of, stacked, FinishOk, invokes, TasksOk}, Frames.{ThisOk, leaves}, Typed.ObjectsOk, Moves.{MoveOk, Runs}, Needs.{Declared, Needs}, Basic.trans_lower, Notes.meets, Tables.{unalias_sees, order_sees}, Values.{top_is, is_number, is_truth, is_address, own_no_trait}, Begin.first_ok, Growth.object_of, Running.push_ok, InverseCalls.{CalledRule, FunctionRule, SendRule, TextRule, call_of}, Popped.{Popped, popped_is, take_arguments, arguments_lower, receiver_last, arguments_count, stacked_last}, Callers.{left_within, counts, actor_of_be, not_print, waits_ok}, Steps.Keeps}
 
 pub invokes_is : (k : NodeKind) → invokes k ≡ true → (name : ℕ) × (k ≡ nodes.Call name)
 invokes_is (nodes.Call name) e = (name, refl)
@@ -82,16 +81,8 @@ module _ (core : CoreData) (ann : Ann) (needs : Needs core ann) (around : Around
 
   -- ---- a function
 
-  -- The method that the call names.
-  pub called_is : (by : CalledRule core ann e.node name e.note) (ns : List Note) → notes_of ann.notes e.node.children ≡ Some ns → called_method core ns (nodes.Call name) ≡ Some by.own
-  called_is by ns are =
-      let t = bind_some (slice_get ann.notes by.last) (λ (u : Note). u.ty) by.receiver by.is_receiver in
-      bind_is (last ns) _ t.0 (last_note_is ann e.node.children ns by.last t.0 are by.is_last t.1)
-      ∙ bind_is t.0.ty _ by.receiver t.2 ∙ bind_is (method_named core by.receiver.0 name) (slice_get core.methods) by.number by.is_number ∙ by.is_own
-
-  function_ok : ((ns : List Note) → notes_of ann.notes e.node.children ≡ Some ns → may_fail core ns e.node.kind ≡ true → (tasks_ok core ann f.method f.tasks).out exit.Error e.note.live_after e.note.set_after e.below)
-      → FunctionRule core ann e.node name e.note → MoveOk core ann around fs (invoke_task core around f e.node.children (nodes.Call name))
-  function_ok fails rule =
+  function_ok : FunctionRule core ann e.node name e.note → MoveOk core ann around fs (invoke_task core around f e.node.children (nodes.Call name))
+  function_ok rule =
       let h : ObjectMap = around.objects in
       let by = rule.by in
       let c = received by in
@@ -113,11 +104,7 @@ module _ (core : CoreData) (ann : Ann) (needs : Needs core ann) (around : Around
       rw (c.is, popped_is core h r.held.this e.below c.under (length e.node.children - 1) by.own.params c.popped, c.typed.is_entity, c.found.found, c.found.is_own, fun, counts core h c.popped.values own.params c.fit, body.1) (
         first_ok core ann needs h c.found.number body.0 own c.this c.popped.values c.found.is_own body.1 other this_ok c.fit,
         waits_ok core ann needs around f fs r e.node e.note e.below e.follows c.popped.rest not_this masks.0 masks.1 c.popped.ok c.found.number own c.this c.found.is_own (ap leaves fun)
-            (trans_lower core ann needs (Some own.result) (Some by.own.result) e.note.ty low rule.result)
-            (λ partial.
-            let l = left_at core ann needs n e.node e.note e.is_node e.is_note in
-            fails l.notes l.are_notes
-            (ap (may_fail core l.notes) is_call ∙ ap (λ (o : Option Method). option_map_or (λ (x : Method). x.partial) o false) (called_is by l.notes l.are_notes) ∙ c.found.stands.partial partial)),
+            (trans_lower core ann needs (Some own.result) (Some by.own.result) e.note.ty low rule.result),
       )
 
   -- ---- a behaviour
@@ -173,14 +160,14 @@ module _ (core : CoreData) (ann : Ann) (needs : Needs core ann) (around : Around
             rw (rule.children, top.is, v.1, no_method core 2 name _ needs.formed.built_in.truths refl (method_named core 2 name) refl, rule.named) (pushes (truth_text v.0))
       ]
 
-  invoke_ok : ((ns : List Note) → notes_of ann.notes e.node.children ≡ Some ns → may_fail core ns e.node.kind ≡ true → (tasks_ok core ann f.method f.tasks).out exit.Error e.note.live_after e.note.set_after e.below) → MoveOk core ann around fs (invoke_task core around f e.node.children (nodes.Call name))
-  invoke_ok fails =
+  invoke_ok : MoveOk core ann around fs (invoke_task core around f e.node.children (nodes.Call name))
+  invoke_ok =
       elim (call_of core ann e.node e.note (meets core ann needs n e.node e.note e.is_node e.is_note) name is_call) [
-        | inl rule ↦ function_ok fails rule
+        | inl rule ↦ function_ok rule
         | inr more ↦ elim more [ inl rule ↦ send_ok rule | inr rule ↦ text_ok rule ]
       ]
 
 pub keeps_invoke : (n : ℕ) → Keeps (task.Invoke n)
 keeps_invoke n core ann needs around f fs r e =
-    let k = invokes_is e.call.node.kind e.call.kind in
-    rw (e.call.is_node, k.1) (invoke_ok core ann needs around f fs r n e.call k.0 k.1 e.fails)
+    let k = invokes_is e.node.kind e.kind in
+    rw (e.is_node, k.1) (invoke_ok core ann needs around f fs r n e k.0 k.1)

@@ -42,7 +42,3 @@ pub mod Needed
 pub mod Starts
 pub mod AllTasks
 pub mod Sound
-pub mod Exits
-pub mod InverseExits
-pub mod Loops
-pub mod LeaveTask

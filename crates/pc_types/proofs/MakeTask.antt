@@ -1,21 +1,20 @@
 -- A class's object is made, and its constructor begins.
-use Rattle.std.specs.{Prelude.{◌≡◌, ◌≢◌, ℕ, true, false, List, ◌∷◌, Option, Some, length, slice_get, refl}, FinMap.insert, Option.option_map_or}
+use Rattle.std.specs.{Prelude.{◌≡◌, ◌≢◌, ℕ, true, List, ◌∷◌, Some, length, slice_get, refl}, FinMap.insert}
 use Rattle.std.proofs.{Common.{ap, sym, subst, ◌∙◌}, lemmas.Option.same_Some}
 use Rattle.pc_core.specs.{declared.declarations.EntityDef.EntityDef, declared.declarations.Method.Method, declared.declarations.MethodKind.MethodKind, declared.nodes.Node.Node, declared.nodes.NodeKind.NodeKind, CoreData.CoreData, Methods.ResultFits, Nodes.NamesFit, Further.NamesMethod}
 use Rattle.pc_heap.specs.{Objects.{ObjectMap, next_address, Object}, declared.value.Address.Address, declared.value.Value.Value, declared.value.Value.TheVariants.At}
 use Rattle.pc_tree.specs.declared.kinds.EntityKind.TheVariants as kind
 use Rattle.pc_caps.specs.declared.capability.Cap.TheVariants as cap
 use Rattle.pc_core.specs.declared.declarations.MethodKind.TheVariants as method
-use Rattle.pc_core.specs.declared.kinds.Exit.TheVariants as exit
 use Rattle.pc_core.specs.declared.nodes.NodeKind.TheVariants as nodes
 use Rattle.pc_tree.specs.Kinds.{may_have_fields}
 use Rattle.pc_ann.specs.{declared.annotation.Note.Note, declared.annotation.Ann.Ann}
 use Rattle.pc_semantics.specs.{declared.frames.Frame.Frame, Configurations.{blank_object, Around, Move, Makes, first_frame, with_stack}, Calls.make_task}
 use Rattle.pc_semantics.specs.declared.frames.Task.TheVariants as task
-use Rattle.pc_rules.specs.{Parts.{constructs, through, notes_of}, Fields.is_this}
-use Rattle.pc_valid.specs.{Words.before, Exits.may_fail}
+use Rattle.pc_rules.specs.{Parts.{constructs, through}, Fields.is_this}
+use Rattle.pc_valid.specs.Words.{before}
 use Rattle.pc_base.proofs.Bools.{false_true}
-use Rattle.pc_types.proofs.{Types.{Lower, Want, StackOk}, Tasks.{FinishOk, makes, tasks_ok, TasksOk}, Frames.leaves, Moves.{MoveOk, Runs}, Needs.Needs, Basic.same_lower, Notes.{meets, left_at}, Begin.first_ok, Growth.{Extends, arguments_kept, wait_kept}, Heaps.fresh_extends, Made.next_free, InverseCalls.{MakesRule, result_of, new_of}, Popped.{Popped, popped_is, take_arguments}, Callers.{left_within, counts, class_of_new, class_no_trait, not_print, born_this, waits_ok}, Steps.Keeps}
+use Rattle.pc_types.proofs.{Types.{Lower, Want, StackOk}, Tasks.{FinishOk, makes, TasksOk}, Frames.leaves, Moves.{MoveOk, Runs}, Needs.Needs, Basic.same_lower, Notes.meets, Begin.first_ok, Growth.{Extends, arguments_kept, wait_kept}, Heaps.fresh_extends, Made.next_free, InverseCalls.{MakesRule, result_of, new_of}, Popped.{Popped, popped_is, take_arguments}, Callers.{left_within, counts, class_of_new, class_no_trait, not_print, born_this, waits_ok}, Steps.Keeps}
 
 pub makes_is : (k : NodeKind) → makes k ≡ true → (m : ℕ) × (k ≡ nodes.New m)
 makes_is (nodes.New m) e = (m, refl)
@@ -68,13 +67,8 @@ module _ (core : CoreData) (ann : Ann) (needs : Needs core ann) (around : Around
   make_move Holds q at =
       rw (popped_is core around.objects r.held.this e.below f.stack (length e.node.children) q.rule.own.params q.popped, q.rule.is_own, counts core around.objects q.popped.values q.rule.own.params q.popped.fit, q.has_body) at
 
-  -- A constructor that may fail is one of a call that may fail.
-  pub may_fail_of : (ns : List Note) (own : Method) → slice_get core.methods k ≡ Some own → own.partial ≡ true → may_fail core ns e.node.kind ≡ true
-  may_fail_of ns own at partial =
-      ap (may_fail core ns) is ∙ ap (λ (o : Option Method). option_map_or (λ (x : Method). x.partial) o false) at ∙ partial
-
-  new_ok : ((ns : List Note) → notes_of ann.notes e.node.children ≡ Some ns → may_fail core ns e.node.kind ≡ true → (tasks_ok core ann f.method f.tasks).out exit.Error e.note.live_after e.note.set_after e.below) → MoveOk core ann around fs (make_task core around f e.node.children (nodes.New k))
-  new_ok fails =
+  new_ok : MoveOk core ann around fs (make_task core around f e.node.children (nodes.New k))
+  new_ok =
       let h : ObjectMap = around.objects in
       let q = making in
       let rule = q.rule in
@@ -85,7 +79,6 @@ module _ (core : CoreData) (ann : Ann) (needs : Needs core ann) (around : Around
       let x : Extends h (insert h a o) = fresh_extends h a o (next_free core h around.actors around.actor r.objects) in
       let wait = waits_ok core ann needs around f fs r e.node e.note e.below e.follows q.popped.rest (λ t. false_true (sym (ap is_this is) ∙ t)) masks.0 masks.1 q.popped.ok k own (At a) rule.is_own (ap leaves q.new)
       (subst (Lower core (Some own.result)) (sym rule.ty_is) (same_lower core (Some own.result)))
-      (λ partial. let l = left_at core ann needs n e.node e.note e.is_node e.is_note in fails l.notes l.are_notes (may_fail_of l.notes own rule.is_own partial))
       in
       make_move (MoveOk core ann around fs) q
       (record {
@@ -105,5 +98,5 @@ module _ (core : CoreData) (ann : Ann) (needs : Needs core ann) (around : Around
 
 pub keeps_make : (n : ℕ) → Keeps (task.Make n)
 keeps_make n core ann needs around f fs r e =
-    let k = makes_is e.call.node.kind e.call.kind in
-    rw (e.call.is_node, k.1) (new_ok core ann needs around f fs r n e.call k.0 k.1 e.fails)
+    let k = makes_is e.node.kind e.kind in
+    rw (e.is_node, k.1) (new_ok core ann needs around f fs r n e k.0 k.1)

@@ -1,13 +1,13 @@
 -- The note of a node meets its rule, and what was read of a node or a method is what is there.
-use Rattle.std.specs.{Prelude.{◌≡◌, ℕ, ◌+◌, true, List, Some, nat_eq, slice_get, false, length}, Int.bit_at}
+use Rattle.std.specs.{Prelude.{◌≡◌, ℕ, ◌+◌, true, Some, nat_eq, slice_get, false, length}, Int.bit_at}
 use Rattle.std.proofs.{Common.{ap, sym, subst, ◌∙◌}, lemmas.Option.same_Some, lemmas.Bool.eqb-true}
 use Rattle.pc_base.proofs.{Gets.get_below, Options.bind_some}
 use Rattle.pc_caps.specs.declared.capability.Cap.{Cap}
 use Rattle.pc_core.specs.{declared.declarations.Method.Method, declared.nodes.Node.Node, declared.nodes.Slot.Slot, CoreData.CoreData, Nodes.{NamesFit, HasArity}, declared.nodes.NodeKind.NodeKind}
 use Rattle.pc_masks.specs.{declared.mask.Mask.Mask, Masks.same}
 use Rattle.pc_ann.specs.{declared.annotation.Note.Note, declared.annotation.Ann.Ann}
-use Rattle.pc_valid.specs.{Words.before, Exits.Leaves}
-use Rattle.pc_rules.specs.{Parts.notes_of, Rules.{rule_says, said_by}}
+use Rattle.pc_valid.specs.Words.{before}
+use Rattle.pc_rules.specs.Rules.{said_by}
 use Rattle.pc_rules.proofs.{ByNumber.{slot_of, IsSaid, says}, Bridge.meets_by_number, Threads.{is_branch, Threaded, threads}}
 use Rattle.pc_types.proofs.{Tasks.Within, Needs.Needs}
 
@@ -24,21 +24,6 @@ module _ (core : CoreData) (ann : Ann) (needs : Needs core ann) where
       let r = note_at n x e in
       let is : r.0 ≡ t = same_Some r.0 t (sym r.1 ∙ g) in
       subst (λ (u : Note). IsSaid core ann x u) is r.2
-
--- The notes of a node's children are there, and by them its note states how it is left.
-pub record Left (core : CoreData) (ann : Ann) (x : Node) (t : Note) : Type 0 where
-  pub notes : List Note
-  pub are_notes : notes_of ann.notes x.children ≡ Some notes
-  pub leaves : Leaves core t notes x
-
-pub left_at : (core : CoreData) (ann : Ann) → Needs core ann → (n : ℕ) (x : Node) (t : Note) → slice_get core.nodes n ≡ Some x → slice_get ann.notes n ≡ Some t → Left core ann x t
-left_at core ann needs n x t e g =
-    let r = needs.valid.rules n (get_below core.nodes n x e) in
-    let same : r.0 ≡ x = same_Some r.0 x (sym r.2 ∙ e) in
-    let noted : r.1 ≡ t = same_Some r.1 t (sym r.3 ∙ g) in
-    let k = bind_some (notes_of ann.notes r.0.children) (λ ns. rule_says core ann.slots ns r.0 (before r.1) r.1.rule r.0.kind) (said_by r.1) r.4 in
-    subst (λ (u : Note). Left core ann x u) noted
-    (subst (λ (y : Node). Left core ann y r.1) same (record { notes = k.0; are_notes = k.1; leaves = r.5 k.0 k.1 }))
 
 -- What a node names exists, and it has as many children as its kind requires.
 pub names_fit : (core : CoreData) (ann : Ann) → Needs core ann → (n : ℕ) (x : Node) → slice_get core.nodes n ≡ Some x → (k : NodeKind) → x.kind ≡ k → NamesFit core x.method k

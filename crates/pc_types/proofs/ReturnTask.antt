@@ -1,5 +1,5 @@
 -- A method ends, and leaves what the frame below waits for, or an object that has all its fields.
-use Rattle.std.specs.Prelude.{◌≡◌, ℕ, true, false, List, [], ◌∷◌, Some, None, slice_get, refl}
+use Rattle.std.specs.Prelude.{◌≡◌, ℕ, true, false, List, [], ◌∷◌, Some, slice_get, refl}
 use Rattle.std.proofs.{Common.{inl, ap, sym, subst, ◌∙◌}, lemmas.Option.same_Some}
 use Rattle.pc_heap.specs.{Objects.ObjectMap, declared.value.Value.Value, declared.value.Value.TheVariants.At}
 use Rattle.pc_core.specs.{declared.declarations.Method.Method, declared.declarations.MethodKind.MethodKind, CoreData.CoreData, Methods.ResultFits}
@@ -42,11 +42,11 @@ module _ (core : CoreData) (ann : Ann) (needs : Needs core ann) (around : Around
           },
           w.5.1,
         ),
-        w.7,
+        w.6,
       )
 
   -- There is no frame below, and the actor's object is finished.
-  nothing_left : (fs : List Frame) → WaitOk core ann around.objects around.actor f.method this fs → leaves own.kind ≡ false → (LastOk around.objects around.actor own.kind this → Finished around.objects (At (own_address around.actor))) → FramesOk core ann around.objects around.actor (left None fs)
+  nothing_left : (fs : List Frame) → WaitOk core ann around.objects around.actor f.method this fs → leaves own.kind ≡ false → (LastOk around.objects around.actor own.kind this → Finished around.objects (At (own_address around.actor))) → FramesOk core ann around.objects around.actor fs
   nothing_left [] w none last = last (subst (λ (x : Method). LastOk around.objects around.actor x.kind this) (same_Some w.0 own (sym w.1 ∙ at)) w.2)
   nothing_left (g ∷ gs) w none last = absurd (false_true (sym none ∙ ap (λ (x : Method). leaves x.kind) (same_Some own w.0 (sym at ∙ w.1)) ∙ w.2))
 

@@ -62,8 +62,8 @@ module _ (core : CoreData) (ann : Ann) (needs : Needs core ann) (around : Around
       go_in around.objects l s g slots vs ts room first (fewer_set core around.objects r.held.own r.held.set s r.held.this less r.held.this_ok) slots_ok stack tasks r.wait
 
   -- Only the tasks differ.
-  pub goes : (ts : List Task) → TasksOk core ann f.method ts r.held.live r.held.set r.held.wants → FramesOk core ann around.objects around.actor (record { method = f.method; slots = f.slots; stack = f.stack; tasks = ts } ∷ fs)
-  goes ts tasks = go_ok r.held.live r.held.set r.held.wants f.slots f.stack ts refl refl (λ i b. b) r.held.slots_ok r.held.stack_ok tasks
+  pub tasks_ok : (ts : List Task) → TasksOk core ann f.method ts r.held.live r.held.set r.held.wants → FramesOk core ann around.objects around.actor (record { method = f.method; slots = f.slots; stack = f.stack; tasks = ts } ∷ fs)
+  tasks_ok ts tasks = go_ok r.held.live r.held.set r.held.wants f.slots f.stack ts refl refl (λ i b. b) r.held.slots_ok r.held.stack_ok tasks
 
   -- The value of a node is pushed on what is below it, and what follows the node goes on.
   pub push_ok : (x : Node) (t : Note) (below : List Want) (vs : List Value) (v : Value) → Follows core x t below (λ l s g. TasksOk core ann f.method f.tasks l s g) → Within t.live_after r.held.live → Within t.set_after r.held.set → StackOk core around.objects r.held.this below vs

@@ -1,19 +1,17 @@
 -- When a frame's tasks can be done: with at least these slots live and these fields of its object set, and with a stack
--- that holds at least this. Each task determines what it leaves, and what follows can be done from there; and so can
--- what comes where a break, a continue or an error arrives.
-use Rattle.std.specs.Prelude.{◌≡◌, ◌⊎◌, ℕ, Bool, true, false, List, [], ◌∷◌, ◌++◌, length, Option, Some, None, is_some, slice_get}
+-- that holds at least this. Each task determines what it leaves, and what follows can be done from there.
+use Rattle.std.specs.Prelude.{◌≡◌, ◌⊎◌, ℕ, Bool, true, false, List, [], ◌∷◌, Option, Some, None, is_some, slice_get}
 use Rattle.pc_caps.specs.declared.capability.Form.{Form}
 use Rattle.pc_caps.specs.declared.capability.Form.TheVariants as form
-use Rattle.pc_core.specs.{declared.declarations.Method.Method, declared.nodes.Node.Node, declared.nodes.NodeKind.NodeKind, declared.kinds.Exit.Exit, CoreData.CoreData, Kinds.{field_read, field_written, stored_slot, called_name, applied_operation, connective}}
+use Rattle.pc_core.specs.{declared.declarations.Method.Method, declared.nodes.Node.Node, declared.nodes.NodeKind.NodeKind, CoreData.CoreData, Kinds.{field_read, field_written, stored_slot, called_name, applied_operation, connective}}
 use Rattle.pc_core.specs.declared.declarations.MethodKind.TheVariants as method
-use Rattle.pc_core.specs.declared.kinds.Exit.TheVariants as exit
 use Rattle.pc_core.specs.declared.nodes.NodeKind.TheVariants as nodes
 use Rattle.pc_masks.specs.{declared.mask.Mask.Mask, Masks.IsInMask}
 use Rattle.pc_ann.specs.{declared.annotation.Note.Note, declared.annotation.Ann.Ann}
-use Rattle.pc_semantics.specs.{declared.frames.Task.Task, Exits.{LoopParts, loop_parts}}
+use Rattle.pc_semantics.specs.declared.frames.Task.{Task}
 use Rattle.pc_semantics.specs.declared.frames.Task.TheVariants as task
-use Rattle.pc_rules.specs.{Parts.{constructs, all_fields, through, type_of, notes_of}, Fields.is_this}
-use Rattle.pc_valid.specs.{Words.{Masks, before}, Exits.{exit_of, may_fail}}
+use Rattle.pc_rules.specs.{Parts.{constructs, all_fields, through, type_of}, Fields.is_this}
+use Rattle.pc_valid.specs.Words.{Masks, before}
 use Rattle.pc_types.proofs.Types.{Lower, Want, wanted}
 
 -- ---- masks
@@ -50,47 +48,10 @@ pub record Follows (core : CoreData) (x : Node) (t : Note) (below : List Want) (
   pub this : goal.own ≡ true → is_this x.kind ≡ true
   pub next : go live set (goal ∷ below)
 
--- ---- what comes after a task
-
--- What follows a task: if it ends, and if it is left by an exit.
-pub record Rest : Type 1 where
-  pub next : Mask → Mask → List Want → Type 0
-  pub out : Exit → Mask → Mask → List Want → Type 0
-
--- The stack is cut down to this height.
-pub record Lands (h : ℕ) (g : List Want) (go : List Want → Type 0) : Type 0 where
-  pub below : List Want
-  pub height : length below ≡ h
-  pub junk : List Want
-  pub stack : g ≡ junk ++ below
-  pub next : go below
-
--- Wherever a node with this note may be left, what comes there can be done.
-abbrev pub ExitsOk : Note → List Want → Rest → Type 0
-ExitsOk t below r = (x : Exit) (e : Masks) → exit_of x t ≡ Some e → r.out x e.0 e.1 below
-
--- An exit that arrives nowhere in a frame is an error, and the method may fail.
-abbrev pub LeavesMethod : CoreData → ℕ → Exit → Type 0
-LeavesMethod core m exit.Error = (x : Method) × (slice_get core.methods m ≡ Some x) × (x.partial ≡ true)
-LeavesMethod core m exit.Break = ⊥
-LeavesMethod core m exit.Continue = ⊥
-
 -- ---- each task
 
 -- Node n is evaluated.
-pub record EvalOk (core : CoreData) (ann : Ann) (m : ℕ) (l s : Mask) (below : List Want) (n : ℕ) (r : Rest) : Type 0 where
-  pub node : Node
-  pub is_node : slice_get core.nodes n ≡ Some node
-  pub note : Note
-  pub is_note : slice_get ann.notes n ≡ Some note
-  pub own : node.method ≡ m
-  pub live : Within note.live_before l
-  pub set : Within note.set_before s
-  pub follows : note.ends ≡ true → Follows core node note below r.next
-  pub exits : ExitsOk note below r
-
--- Node n, which ends, is evaluated.
-pub record EndsOk (core : CoreData) (ann : Ann) (m : ℕ) (l s : Mask) (below : List Want) (n : ℕ) (go : Mask → Mask → List Want → Type 0) : Type 0 where
+pub record EvalOk (core : CoreData) (ann : Ann) (m : ℕ) (l s : Mask) (below : List Want) (n : ℕ) (go : Mask → Mask → List Want → Type 0) : Type 0 where
   pub node : Node
   pub is_node : slice_get core.nodes n ≡ Some node
   pub note : Note
@@ -100,8 +61,8 @@ pub record EndsOk (core : CoreData) (ann : Ann) (m : ℕ) (l s : Mask) (below : 
   pub set : Within note.set_before s
   pub follows : Follows core node note below go
 
--- Node n is the body of the method, and nothing follows it; but it may be left.
-pub record BodyOk (core : CoreData) (ann : Ann) (m : ℕ) (l s : Mask) (below : List Want) (n : ℕ) (r : Rest) : Type 0 where
+-- Node n is the body of the method, and nothing follows it.
+pub record BodyOk (core : CoreData) (ann : Ann) (m : ℕ) (l s : Mask) (n : ℕ) : Type 0 where
   pub node : Node
   pub is_node : slice_get core.nodes n ≡ Some node
   pub note : Note
@@ -110,7 +71,6 @@ pub record BodyOk (core : CoreData) (ann : Ann) (m : ℕ) (l s : Mask) (below : 
   pub is_body : node.kind ≡ nodes.Body
   pub live : Within note.live_before l
   pub set : Within note.set_before s
-  pub exits : ExitsOk note below r
 
 -- The task goes on with node n, whose children are evaluated; `does` are the kinds of nodes that it is for.
 pub record FinishOk (core : CoreData) (ann : Ann) (m : ℕ) (l s : Mask) (g : List Want) (does : NodeKind → Bool) (n : ℕ) (go : Mask → Mask → List Want → Type 0) : Type 0 where
@@ -151,11 +111,6 @@ invokes k = is_some (called_name k)
 abbrev pub applies : NodeKind → Bool
 applies k = is_some (applied_operation k)
 
--- The same for a constructor or a call: if the method may fail, the frame may be left from behind the arguments.
-pub record CallOk (core : CoreData) (ann : Ann) (m : ℕ) (l s : Mask) (g : List Want) (does : NodeKind → Bool) (n : ℕ) (r : Rest) : Type 0 where
-  pub call : FinishOk core ann m l s g does n r.next
-  pub fails : (ns : List Note) → notes_of ann.notes call.node.children ≡ Some ns → may_fail core ns call.node.kind ≡ true → r.out exit.Error call.note.live_after call.note.set_after call.below
-
 -- The top of the stack is a truth value.
 abbrev pub TruthOnTop : List Want → List Want → Type 0
 TruthOnTop g below = (f : Form) × (g ≡ wanted (Some (2, f)) ∷ below)
@@ -164,7 +119,7 @@ abbrev pub is_lazy : NodeKind → Bool
 is_lazy k = is_some (connective k)
 
 -- The left side of node n decides, or the right side does.
-pub record TestOk (core : CoreData) (ann : Ann) (m : ℕ) (l s : Mask) (g : List Want) (n : ℕ) (r : Rest) : Type 0 where
+pub record TestOk (core : CoreData) (ann : Ann) (m : ℕ) (l s : Mask) (g : List Want) (n : ℕ) (go : Mask → Mask → List Want → Type 0) : Type 0 where
   pub node : Node
   pub is_node : slice_get core.nodes n ≡ Some node
   pub kind : is_lazy node.kind ≡ true
@@ -177,11 +132,11 @@ pub record TestOk (core : CoreData) (ann : Ann) (m : ℕ) (l s : Mask) (g : List
   pub top : TruthOnTop g below
   pub live : Within note.live_after l
   pub set : Within note.set_after s
-  pub decided : Follows core node note below r.next
-  pub undecided : EvalOk core ann m l s below right r
+  pub decided : Follows core node note below go
+  pub undecided : EvalOk core ann m l s below right go
 
 -- Each branch of node n can be evaluated.
-pub record BranchOk (core : CoreData) (ann : Ann) (m : ℕ) (l s : Mask) (g : List Want) (n : ℕ) (r : Rest) : Type 0 where
+pub record BranchOk (core : CoreData) (ann : Ann) (m : ℕ) (l s : Mask) (g : List Want) (n : ℕ) (go : Mask → Mask → List Want → Type 0) : Type 0 where
   pub node : Node
   pub is_node : slice_get core.nodes n ≡ Some node
   pub condition : ℕ
@@ -190,8 +145,8 @@ pub record BranchOk (core : CoreData) (ann : Ann) (m : ℕ) (l s : Mask) (g : Li
   pub children : node.children ≡ condition ∷ then_branch ∷ else_branch ∷ []
   pub below : List Want
   pub top : TruthOnTop g below
-  pub one : EvalOk core ann m l s below then_branch r
-  pub other : EvalOk core ann m l s below else_branch r
+  pub one : EvalOk core ann m l s below then_branch go
+  pub other : EvalOk core ann m l s below else_branch go
 
 -- A value is dropped.
 pub record DiscardOk (g : List Want) (go : List Want → Type 0) : Type 0 where
@@ -200,83 +155,22 @@ pub record DiscardOk (g : List Want) (go : List Want → Type 0) : Type 0 where
   pub stack : g ≡ top ∷ below
   pub next : go below
 
--- What follows takes None for what it is, or for less.
-pub record TakesNone (core : CoreData) (l s : Mask) (below : List Want) (r : Rest) : Type 0 where
-  pub goal : Want
-  pub fits : Lower core (Some (0, form.Val)) goal.ty
-  pub other : goal.own ≡ true → ⊥
-  pub next : r.next l s (goal ∷ below)
-
--- A value is replaced by None.
-pub record BlankOk (core : CoreData) (l s : Mask) (g : List Want) (r : Rest) : Type 0 where
-  pub top : Want
-  pub below : List Want
-  pub stack : g ≡ top ∷ below
-  pub takes : TakesNone core l s below r
-
--- ---- loops
-
--- Loop n, over this stack: what follows it can be done, and what comes where it is left.
-pub record LoopOk (core : CoreData) (ann : Ann) (m : ℕ) (below : List Want) (n : ℕ) (r : Rest) : Type 0 where
+-- The body of node n can be evaluated, and after it the whole loop again; and what follows the node, after the
+-- condition.
+pub record LoopOk (core : CoreData) (ann : Ann) (m : ℕ) (l s : Mask) (g : List Want) (n : ℕ) (go : Mask → Mask → List Want → Type 0) : Type 0 where
   pub node : Node
   pub is_node : slice_get core.nodes n ≡ Some node
   pub note : Note
-  pub is_note : slice_get ann.notes n ≡ Some note
-  pub own : node.method ≡ m
-  pub parts : LoopParts
-  pub are_parts : loop_parts node.kind node.children ≡ Some parts
-  pub follows : Follows core node note below r.next
-  pub exits : ExitsOk note below r
-
--- Its condition can be evaluated.
-pub record AgainOk (core : CoreData) (ann : Ann) (m : ℕ) (l s : Mask) (below : List Want) (n : ℕ) (r : Rest) : Type 0 where
-  pub loop : LoopOk core ann m below n r
-  pub note : Note
-  pub is_note : slice_get ann.notes loop.parts.condition ≡ Some note
-  pub live : Within note.live_before l
-  pub set : Within note.set_before s
-
--- Its condition was evaluated.
-pub record TurnOk (core : CoreData) (ann : Ann) (m : ℕ) (l s : Mask) (g : List Want) (n : ℕ) (r : Rest) : Type 0 where
+  pub ty : note.ty ≡ Some (0, form.Val)
+  pub condition : ℕ
+  pub body : ℕ
+  pub children : node.children ≡ condition ∷ body ∷ []
   pub below : List Want
   pub top : TruthOnTop g below
-  pub loop : LoopOk core ann m below n r
-  pub note : Note
-  pub is_note : slice_get ann.notes loop.parts.condition ≡ Some note
   pub live : Within note.live_after l
   pub set : Within note.set_after s
-
--- A break has left its body.
-pub record BrokenOk (core : CoreData) (ann : Ann) (m : ℕ) (l s : Mask) (below : List Want) (n : ℕ) (r : Rest) : Type 0 where
-  pub loop : LoopOk core ann m below n r
-  pub note : Note
-  pub is_note : slice_get ann.notes loop.parts.body ≡ Some note
-  pub at : Masks
-  pub is_at : note.breaks ≡ Some at
-  pub live : Within at.0 l
-  pub set : Within at.1 s
-
-abbrev pub mark_out : CoreData → Ann → ℕ → (node height : ℕ) → Rest → Exit → Mask → Mask → List Want → Type 0
-mark_out core ann m n h r exit.Break l s g = Lands h g (λ b. BrokenOk core ann m l s b n r)
-mark_out core ann m n h r exit.Continue l s g = Lands h g (λ b. AgainOk core ann m l s b n r)
-mark_out core ann m n h r exit.Error l s g = r.out exit.Error l s g
-
--- ---- `try`
-
--- The `else` of node n can be evaluated.
-pub record CaughtOk (core : CoreData) (ann : Ann) (m : ℕ) (l s : Mask) (below : List Want) (n : ℕ) (r : Rest) : Type 0 where
-  pub node : Node
-  pub is_node : slice_get core.nodes n ≡ Some node
-  pub other : ℕ
-  pub is_other : slice_get node.children 1 ≡ Some other
-  pub evaluates : EvalOk core ann m l s below other r
-
-abbrev pub catch_out : CoreData → Ann → ℕ → (node height : ℕ) → Rest → Exit → Mask → Mask → List Want → Type 0
-catch_out core ann m n h r exit.Error l s g = Lands h g (λ b. CaughtOk core ann m l s b n r)
-catch_out core ann m n h r exit.Break l s g = r.out exit.Break l s g
-catch_out core ann m n h r exit.Continue l s g = r.out exit.Continue l s g
-
--- ---- the end of a method
+  pub ended : Follows core node note below go
+  pub turn : EvalOk core ann m l s below body (λ l' s' g'. DiscardOk g' (λ g''. EvalOk core ann m l' s' g'' n go ⊎ BodyOk core ann m l' s' n))
 
 -- The method ends: a function has its result on the stack, and a constructor has set all fields.
 pub record ReturnOk (core : CoreData) (m : ℕ) (s : Mask) (g : List Want) : Type 0 where
@@ -287,37 +181,18 @@ pub record ReturnOk (core : CoreData) (m : ℕ) (s : Mask) (g : List Want) : Typ
 
 -- ---- the tasks of a frame of method m
 
--- The task can be done, if what follows can.
-abbrev pub task_next : CoreData → Ann → ℕ → Task → Rest → Mask → Mask → List Want → Type 0
-task_next core ann m (task.Eval n) r l s g = EvalOk core ann m l s g n r ⊎ BodyOk core ann m l s g n r
-task_next core ann m (task.Get n) r l s g = FinishOk core ann m l s g reads n r.next
-task_next core ann m (task.Put n) r l s g = FinishOk core ann m l s g writes n r.next
-task_next core ann m (task.Store n) r l s g = FinishOk core ann m l s g stores n r.next
-task_next core ann m (task.Make n) r l s g = CallOk core ann m l s g makes n r
-task_next core ann m (task.Spawn n) r l s g = FinishOk core ann m l s g spawns n r.next
-task_next core ann m (task.Invoke n) r l s g = CallOk core ann m l s g invokes n r
-task_next core ann m (task.Apply n) r l s g = FinishOk core ann m l s g applies n r.next
-task_next core ann m (task.Test n) r l s g = TestOk core ann m l s g n r
-task_next core ann m (task.Branch n) r l s g = BranchOk core ann m l s g n r
-task_next core ann m (task.Loop n) r l s g = TurnOk core ann m l s g n r
-task_next core ann m (task.Next n) r l s g = TurnOk core ann m l s g n r
-task_next core ann m (task.Mark n h) r l s g = AgainOk core ann m l s g n r
-task_next core ann m (task.Catch n h) r l s g = r.next l s g
-task_next core ann m task.Discard r l s g = DiscardOk g (λ b. r.next l s b)
-task_next core ann m task.Blank r l s g = BlankOk core l s g r
-task_next core ann m task.Fail r l s g = r.out exit.Error l s g
-task_next core ann m task.Return r l s g = ReturnOk core m s g
-
--- Where the frame is left while this task waits.
-abbrev pub task_out : CoreData → Ann → ℕ → Task → Rest → Exit → Mask → Mask → List Want → Type 0
-task_out core ann m (task.Mark n h) r x l s g = mark_out core ann m n h r x l s g
-task_out core ann m (task.Catch n h) r x l s g = catch_out core ann m n h r x l s g
-task_out core ann m t r x l s g = r.out x l s g
-
-abbrev pub tasks_ok : CoreData → Ann → ℕ → List Task → Rest
-tasks_ok core ann m [] = record { next = λ l s g. ⊥; out = λ x l s g. LeavesMethod core m x }
-tasks_ok core ann m (t ∷ ts) =
-    record { next = task_next core ann m t (tasks_ok core ann m ts); out = task_out core ann m t (tasks_ok core ann m ts) }
-
 abbrev pub TasksOk : CoreData → Ann → ℕ → List Task → Mask → Mask → List Want → Type 0
-TasksOk core ann m ts l s g = (tasks_ok core ann m ts).next l s g
+TasksOk core ann m [] l s g = ⊥
+TasksOk core ann m (task.Eval n ∷ ts) l s g = EvalOk core ann m l s g n (λ l' s' g'. TasksOk core ann m ts l' s' g') ⊎ BodyOk core ann m l s n
+TasksOk core ann m (task.Get n ∷ ts) l s g = FinishOk core ann m l s g reads n (λ l' s' g'. TasksOk core ann m ts l' s' g')
+TasksOk core ann m (task.Put n ∷ ts) l s g = FinishOk core ann m l s g writes n (λ l' s' g'. TasksOk core ann m ts l' s' g')
+TasksOk core ann m (task.Store n ∷ ts) l s g = FinishOk core ann m l s g stores n (λ l' s' g'. TasksOk core ann m ts l' s' g')
+TasksOk core ann m (task.Make n ∷ ts) l s g = FinishOk core ann m l s g makes n (λ l' s' g'. TasksOk core ann m ts l' s' g')
+TasksOk core ann m (task.Spawn n ∷ ts) l s g = FinishOk core ann m l s g spawns n (λ l' s' g'. TasksOk core ann m ts l' s' g')
+TasksOk core ann m (task.Invoke n ∷ ts) l s g = FinishOk core ann m l s g invokes n (λ l' s' g'. TasksOk core ann m ts l' s' g')
+TasksOk core ann m (task.Apply n ∷ ts) l s g = FinishOk core ann m l s g applies n (λ l' s' g'. TasksOk core ann m ts l' s' g')
+TasksOk core ann m (task.Test n ∷ ts) l s g = TestOk core ann m l s g n (λ l' s' g'. TasksOk core ann m ts l' s' g')
+TasksOk core ann m (task.Branch n ∷ ts) l s g = BranchOk core ann m l s g n (λ l' s' g'. TasksOk core ann m ts l' s' g')
+TasksOk core ann m (task.Loop n ∷ ts) l s g = LoopOk core ann m l s g n (λ l' s' g'. TasksOk core ann m ts l' s' g')
+TasksOk core ann m (task.Discard ∷ ts) l s g = DiscardOk g (λ g'. TasksOk core ann m ts l s g')
+TasksOk core ann m (task.Return ∷ ts) l s g = ReturnOk core m s g

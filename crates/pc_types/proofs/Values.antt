@@ -1,6 +1,6 @@
 -- What a value of some types is.
-use Rattle.std.specs.Prelude.{◌≡◌, ℕ, suc, ◌+◌, ◌-◌, ◌≤◌, Bool, true, false, List, [], ◌∷◌, ◌++◌, drop, length, Some, slice_get, refl}
-use Rattle.std.proofs.{Common.{inl, inr, ap, sym, subst, ◌∙◌, arith}, lemmas.Option.same_Some}
+use Rattle.std.specs.Prelude.{◌≡◌, ℕ, ◌≤◌, Bool, true, false, List, [], ◌∷◌, Some, slice_get, refl}
+use Rattle.std.proofs.{Common.{inl, inr, ap, sym, ◌∙◌, arith}, lemmas.Option.same_Some}
 use Rattle.pc_heap.specs.{Objects.ObjectMap, declared.value.Address.Address, declared.value.Value.Value, declared.value.Value.TheVariants.{Num, Truth, Text, Prim, At}}
 use Rattle.pc_caps.specs.declared.capability.Form.{Form}
 use Rattle.pc_tree.specs.{declared.kinds.EntityKind.EntityKind, Kinds.{is_abstract, may_have_fields}}
@@ -95,29 +95,3 @@ module _ (core : CoreData) (ann : Ann) (needs : Needs core ann) (objects : Objec
       named : (p : ℕ) (x : EntityDef) → NamesPrimitive core p → slice_get core.entities p ≡ Some x → is_abstract x.kind ≡ false
       named p x (inl zero) g = no_trait x.kind (ap (λ (z : EntityDef). z.kind) (same_Some x _ (sym g ∙ ap (slice_get core.entities) zero ∙ needs.formed.built_in.none)))
       named p x (inr other) g = no_trait x.kind (ap (λ (z : EntityDef). z.kind) (same_Some x other.1.0 (sym g ∙ other.1.1)) ∙ other.1.2)
-
--- ---- a stack that is cut
-
--- A stack has a value for each want.
-pub stack_length : (core : CoreData) (objects : ObjectMap) (this : Value) (g : List Want) (vs : List Value) → StackOk core objects this g vs → length g ≡ length vs
-stack_length core objects this [] [] k = refl
-stack_length core objects this [] (v ∷ vs) k = absurd k
-stack_length core objects this (w ∷ g) [] k = absurd k
-stack_length core objects this (w ∷ g) (v ∷ vs) k = ap suc (stack_length core objects this g vs k.1)
-
-stack_drop : (core : CoreData) (objects : ObjectMap) (this : Value) (junk below : List Want) (vs : List Value) → StackOk core objects this (junk ++ below) vs → StackOk core objects this below (drop (length junk) vs)
-stack_drop core objects this [] below vs k = k
-stack_drop core objects this (w ∷ junk) below [] k = absurd k
-stack_drop core objects this (w ∷ junk) below (v ∷ vs) k = stack_drop core objects this junk below vs k.1
-
-joined_length : (junk below : List Want) → length (junk ++ below) ≡ length junk + length below
-joined_length [] below = omega arith
-joined_length (w ∷ junk) below = let more = joined_length junk below in omega (arith, more)
-
--- What is left of a stack that is cut down to the height of what is below.
-pub stack_cut : (core : CoreData) (objects : ObjectMap) (this : Value) (junk below : List Want) (vs : List Value) (h : ℕ) → length below ≡ h → StackOk core objects this (junk ++ below) vs → StackOk core objects this below (drop (length vs - h) vs)
-stack_cut core objects this junk below vs h height k =
-    let all : length (junk ++ below) ≡ length vs = stack_length core objects this (junk ++ below) vs k in
-    let parts : length (junk ++ below) ≡ length junk + length below = joined_length junk below in
-    let cut : length junk ≡ length vs - h = omega (arith, all, parts, height) in
-    subst (λ (n : ℕ). StackOk core objects this below (drop n vs)) cut (stack_drop core objects this junk below vs k)

@@ -1,4 +1,3 @@
 pub mod Words
-pub mod Exits
 pub mod Valid
 pub mod NoRule

@@ -1,31 +1,32 @@
 -- What shows that no annotation is valid: the first node whose rule no note satisfies, or the first constructor after which a
 -- field is not set.
-use Rattle.std.specs.Prelude.{◌≡◌, ℕ, ◌+◌, ◌<◌, ◌≤◌, List, length, take, Some, None, slice_get}
+use Rattle.std.specs.Prelude.{◌≡◌, ℕ, suc, ◌+◌, ◌<◌, ◌≤◌, List, length, Some, None, slice_get}
 use Rattle.pc_sub.specs.Declarations.{DeclOk}
 use Rattle.pc_core.specs.{declared.declarations.Method.Method, declared.nodes.Slot.Slot, declared.nodes.Node.Node, CoreData.CoreData}
 use Rattle.pc_base.specs.Lists.{Each}
 use Rattle.pc_masks.specs.{declared.mask.Mask.Mask, Masks.first}
 use Rattle.pc_ann.specs.{declared.annotation.Note.Note, declared.annotation.Ann.Ann}
-use Rattle.pc_valid.specs.{Words.{Slots, Masks, before, IsConstructor, AllSet, StartsSet}, Exits.{Leaves, starts_at}, Valid.{Means, AreNotes, KeepsWritten, Meets, SetsFields}}
+use Rattle.pc_valid.specs.{Words.{Slots, Masks, before, masks_after, IsConstructor, AllSet, StartsSet}, Valid.{Means, KeepsWritten, Meets, SetsFields}}
 use Rattle.pc_core.specs.declared.nodes.NodeKind.TheVariants as node_kind
 
 -- This note of the node with this number satisfies its rule, by the types of the slots and by the notes of the node's
--- children, in order, and states how the node is left.
+-- children, in order.
 abbrev pub Holds : CoreData → Slots → Note → List Note → ℕ → Type 0
-Holds core slots own notes number =
-    (node : Node) × (slice_get core.nodes number ≡ Some node) × Means core slots own notes node own.rule node.kind × Leaves core own notes node
+Holds core slots own notes number = (node : Node) × (slice_get core.nodes number ≡ Some node) × Means core slots own notes node own.rule node.kind
 
--- A method's body is reached by the masks with which the method starts, and a child by those with which it starts by the
--- notes of the children before it, or by those that reach its parent.
+-- A method's body is reached by the masks with which the method starts, and a first child by those that reach its parent.
+-- An `else` branch is reached by the masks after the condition, and any other child by those after the child before it.
 pub data Reaches (core : CoreData) (ann : Ann) : ℕ → Masks → Type 0 where
   body : {number : ℕ} {set : Mask} (node : Node) (home : Method) → slice_get core.nodes number ≡ Some node → node.kind ≡ node_kind.Body
       → slice_get core.methods node.method ≡ Some home → StartsSet core home set → Reaches core ann number (first (1 + length home.params), set)
-  with_parent : {number : ℕ} {masks : Masks} (parent index : ℕ) (node : Node) (notes : List Note) → slice_get core.nodes parent ≡ Some node
-      → slice_get node.children index ≡ Some number → AreNotes ann.notes (take index node.children) notes → starts_at node.kind notes ≡ None
-      → Reaches core ann parent masks → Reaches core ann number masks
-  after_others : {number : ℕ} {masks : Masks} (parent index : ℕ) (node : Node) (notes : List Note) → slice_get core.nodes parent ≡ Some node
-      → slice_get node.children index ≡ Some number → AreNotes ann.notes (take index node.children) notes → starts_at node.kind notes ≡ Some masks
-      → Reaches core ann number masks
+  first_child : {number : ℕ} {masks : Masks} (parent : ℕ) (node : Node) → slice_get core.nodes parent ≡ Some node
+      → slice_get node.children 0 ≡ Some number → Reaches core ann parent masks → Reaches core ann number masks
+  else_branch : {number : ℕ} (parent condition : ℕ) (node : Node) (note : Note) → slice_get core.nodes parent ≡ Some node → node.kind ≡ node_kind.If
+      → slice_get node.children 2 ≡ Some number → slice_get node.children 0 ≡ Some condition → slice_get ann.notes condition ≡ Some note
+      → Reaches core ann number (masks_after note)
+  next_child : {number : ℕ} (parent child index : ℕ) (node : Node) (note : Note) → slice_get core.nodes parent ≡ Some node
+      → (node.kind ≡ node_kind.If → index ≡ 1 → ⊥) → slice_get node.children (suc index) ≡ Some number → slice_get node.children index ≡ Some child
+      → slice_get ann.notes child ≡ Some note → Reaches core ann number (masks_after note)
 
 -- The node with this number has a note that satisfies its rule, and the masks before it are those that reach the node.
 abbrev pub MeetsReached : CoreData → Ann → ℕ → Type 0

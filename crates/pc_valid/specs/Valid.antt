@@ -2,14 +2,14 @@
 --
 -- Each record of a rule states when the note of a node satisfies it: its condition, the type, and the masks.
 -- `own` is the note of the node, and `notes` are those of its children, in order. A type is that of the node's value,
--- or none if the value cannot be used. Whether a node ends, and where its jumps leave it, is the same for all rules.
-use Rattle.std.specs.Prelude.{◌≡◌, ◌⊎◌, ◌↔◌, ℕ, ◌+◌, true, false, List, [], ◌∷◌, ◌++◌, length, codes, Bool, Option, Some, None, slice_get, ◌<◌, is_some, unwrap_or}
+-- or none if the value cannot be used.
+use Rattle.std.specs.Prelude.{◌≡◌, ◌⊎◌, ◌↔◌, ℕ, ◌+◌, true, false, List, [], ◌∷◌, ◌++◌, length, codes, Option, Some, None, slice_get, ◌<◌}
 use Rattle.pc_caps.specs.{Tables.{view, taken, enters, plain, unalias, sendable_form}, declared.capability.Cap.Cap, declared.capability.Form.Form}
 use Rattle.pc_tree.specs.{Kinds.{none_entity, u64_entity, bool_entity, string_entity}, declared.kinds.Op.Op}
 use Rattle.pc_core.specs.{declared.declarations.Method.Method, declared.nodes.Node.Node, declared.nodes.NodeKind.NodeKind, CoreData.CoreData}
 use Rattle.pc_ann.specs.{declared.annotation.Note.Note, declared.annotation.Rule.Rule, declared.annotation.Ann.Ann}
 use Rattle.pc_masks.specs.Masks.{IsInMask, with_number, without_number, first}
-use Rattle.pc_valid.specs.{Exits.{Leaves, MarkFits, met_with}, Words.{Ty, Masks, FormFits, IsLower, GoesTo, ReadsValue, OfBranches, LeavesRecover, Recovers, before, masks_after, on_both_ways, everything, OneAfterOther, AllSet, StartsSet, Slots, SlotOf, Reachable, DefinedAs, Defines, FieldOf, place, Called, Go, Sendable, Incomplete, Place, IsConstructor}}
+use Rattle.pc_valid.specs.Words.{Ty, Masks, FormFits, IsLower, GoesTo, ReadsValue, Joined, Recovers, before, masks_after, on_both_ways, OneAfterOther, AllSet, StartsSet, Slots, SlotOf, Reachable, DefinedAs, Defines, FieldOf, place, Called, Go, Sendable, Incomplete, Place, IsConstructor}
 use Rattle.pc_sub.specs.Declarations.{DeclOk}
 use Rattle.pc_base.specs.Lists.{Each}
 use Rattle.pc_caps.specs.declared.capability.Cap.TheVariants as cap
@@ -17,7 +17,6 @@ use Rattle.pc_caps.specs.declared.capability.Form.TheVariants as form
 use Rattle.pc_tree.specs.declared.kinds.Op.TheVariants as op
 use Rattle.pc_core.specs.declared.declarations.MethodKind.TheVariants as method
 use Rattle.pc_core.specs.declared.nodes.SlotKind.TheVariants as slot_kind
-use Rattle.pc_core.specs.declared.nodes.Mark.TheVariants as mark
 use Rattle.pc_core.specs.declared.nodes.NodeKind.TheVariants as node_kind
 use Rattle.pc_ann.specs.declared.annotation.Rule.TheVariants as rule
 
@@ -148,28 +147,25 @@ pub record PutOwn (core : CoreData) (own : Note) (notes : List Note) (node : Nod
 -- ---- calls
 
 -- A constructor of a class.
-pub record New (core : CoreData) (own : Note) (notes : List Note) (node : Node) (number : ℕ) : Type 0 where
+pub record New (core : CoreData) (own : Note) (notes : List Note) (number : ℕ) : Type 0 where
   pub called : Method
   pub is_called : slice_get core.methods number ≡ Some called
-  pub mark : MarkFits node.mark called
   pub go : Go core notes called.params
   pub type : own.ty ≡ Some called.result
   pub masks : OneAfterOther notes (before own) (masks_after own)
 
 -- A constructor of an actor.
-pub record Spawn (core : CoreData) (own : Note) (notes : List Note) (node : Node) (number : ℕ) : Type 0 where
+pub record Spawn (core : CoreData) (own : Note) (notes : List Note) (number : ℕ) : Type 0 where
   pub called : Method
   pub is_called : slice_get core.methods number ≡ Some called
-  pub mark : MarkFits node.mark called
   pub go : Go core notes called.params
   pub type : own.ty ≡ Some (called.entity, form.Tag)
   pub masks : OneAfterOther notes (before own) (masks_after own)
 
 -- A call of a function whose `this` may hold the receiver.
-pub record Call (core : CoreData) (own : Note) (notes : List Note) (node : Node) (name : ℕ) : Type 0 where
+pub record Call (core : CoreData) (own : Note) (notes : List Note) (name : ℕ) : Type 0 where
   pub call : Called core notes name
   pub function : call.called.kind ≡ method.Fun
-  pub mark : MarkFits node.mark call.called
   pub go : Go core call.arguments call.called.params
   pub fit : FormFits call.to.1 call.called.receiver
   pub type : own.ty ≡ Some call.called.result
@@ -177,10 +173,9 @@ pub record Call (core : CoreData) (own : Note) (notes : List Note) (node : Node)
 
 -- A call of a function to which an `iso` or `trn` receiver is lent as `ref` or `box`: all arguments may be sent, and so may
 -- the result, or it cannot be used.
-pub record CallRecover (core : CoreData) (own : Note) (notes : List Note) (node : Node) (name : ℕ) : Type 0 where
+pub record CallRecover (core : CoreData) (own : Note) (notes : List Note) (name : ℕ) : Type 0 where
   pub call : Called core notes name
   pub function : call.called.kind ≡ method.Fun
-  pub mark : MarkFits node.mark call.called
   pub go : Go core call.arguments call.called.params
   pub no_fit : FormFits call.to.1 call.called.receiver → ⊥
   pub isolated : (call.to.1 ≡ form.Iso) ⊎ (call.to.1 ≡ form.Trn)
@@ -191,20 +186,18 @@ pub record CallRecover (core : CoreData) (own : Note) (notes : List Note) (node 
   pub masks : OneAfterOther notes (before own) (masks_after own)
 
 -- A message: a call of a behaviour.
-pub record Send (core : CoreData) (own : Note) (notes : List Note) (node : Node) (name : ℕ) : Type 0 where
+pub record Send (core : CoreData) (own : Note) (notes : List Note) (name : ℕ) : Type 0 where
   pub call : Called core notes name
   pub behaviour : call.called.kind ≡ method.Be
-  pub mark : MarkFits node.mark call.called
   pub go : Go core call.arguments call.called.params
   pub type : own.ty ≡ Some (none_entity, form.Val)
   pub masks : OneAfterOther notes (before own) (masks_after own)
 
--- `string` of a number or of a truth value, which does not fail.
-pub record Builtin (core : CoreData) (own : Note) (notes : List Note) (node : Node) (name : ℕ) : Type 0 where
+-- `string` of a number or of a truth value.
+pub record Builtin (core : CoreData) (own : Note) (notes : List Note) (name : ℕ) : Type 0 where
   pub child : Note
   pub children : notes ≡ child ∷ []
   pub is_string : slice_get core.names name ≡ Some (codes "string")
-  pub mark : node.mark ≡ mark.Partial → ⊥
   pub reads : ReadsValue u64_entity child.ty ⊎ ReadsValue bool_entity child.ty
   pub type : own.ty ≡ Some (string_entity, form.Val)
   pub masks : OneAfterOther notes (before own) (masks_after own)
@@ -268,18 +261,15 @@ pub record Identity (own : Note) (notes : List Note) : Type 0 where
 
 -- ---- control
 
--- A sequence has the type of its last item, and every other item ends. After it the locals that its items define are no
--- longer live.
+-- A sequence has the type of its last item. After it the locals that its items define are no longer live.
 pub record SeqRule (core : CoreData) (own : Note) (notes : List Note) (node : Node) : Type 0 where
   pub front : List Note
   pub last : Note
   pub children : notes ≡ front ++ last ∷ []
-  pub all_end : Each (λ index note. note.ends ≡ true) front
   pub type : own.ty ≡ last.ty
   pub after_children : Masks
   pub in_order : OneAfterOther notes (before own) after_children
-  pub live : last.ends ≡ true → (number : ℕ) → IsInMask own.live_after number ↔ (IsInMask after_children.0 number × (Defines core node.children number → ⊥))
-  pub no_end : last.ends ≡ false → own.live_after ≡ after_children.0
+  pub live : (number : ℕ) → IsInMask own.live_after number ↔ (IsInMask after_children.0 number × (Defines core node.children number → ⊥))
   pub set : own.set_after ≡ after_children.1
 
 -- `if`: both branches start after the condition.
@@ -289,94 +279,24 @@ pub record If (core : CoreData) (own : Note) (notes : List Note) : Type 0 where
   pub second : Note
   pub children : notes ≡ condition ∷ first ∷ second ∷ []
   pub reads : ReadsValue bool_entity condition.ty
-  pub type : OfBranches core first second own.ty
+  pub type : Joined core first.ty second.ty own.ty
   pub condition_starts : before condition ≡ before own
   pub first_starts : before first ≡ masks_after condition
   pub second_starts : before second ≡ masks_after condition
   pub masks : masks_after own ≡ on_both_ways (masks_after first) (masks_after second)
 
--- These masks are some with which a loop may begin again: what is live before the loop is live, and the same fields are
--- set.
-pub record Resumes (own : Note) (masks : Masks) : Type 0 where
-  pub live : (number : ℕ) → IsInMask own.live_before number → IsInMask masks.0 number
-  pub set : masks.1 ≡ own.set_before
-
--- How a loop with this condition and this body ends, by the notes of what comes after the two. The `else` starts where
--- the condition ends the loop or a `break` leaves the body.
-pub data LoopEnds (own condition body : Note) : List Note → Type 0 where
-  without_else : masks_after own ≡ met_with (masks_after condition) body.breaks → LoopEnds own condition body []
-  with_else : {other : Note} → before other ≡ met_with (masks_after condition) body.breaks
-      → masks_after own ≡ on_both_ways (masks_after condition) (masks_after other) → LoopEnds own condition body (other ∷ [])
-
--- `while`: the loop may begin again after the body, and where a `continue` leaves it.
+-- `while`: after the body everything is live that was live before the loop, and the same fields are set.
 pub record While (own : Note) (notes : List Note) : Type 0 where
   pub condition : Note
   pub body : Note
-  pub others : List Note
-  pub children : notes ≡ condition ∷ body ∷ others
+  pub children : notes ≡ condition ∷ body ∷ []
   pub reads : ReadsValue bool_entity condition.ty
   pub type : own.ty ≡ Some (none_entity, form.Val)
   pub condition_starts : before condition ≡ before own
   pub body_starts : before body ≡ masks_after condition
-  pub again : body.ends ≡ true → Resumes own (masks_after body)
-  pub continues : (masks : Masks) → body.continues ≡ Some masks → Resumes own masks
-  pub ending : LoopEnds own condition body others
-
--- `repeat`: the condition starts where the body ends or a `continue` leaves it, and one of the two may be. The loop may
--- begin again after the condition.
-pub record Repeat (own : Note) (notes : List Note) : Type 0 where
-  pub body : Note
-  pub condition : Note
-  pub others : List Note
-  pub children : notes ≡ body ∷ condition ∷ others
-  pub comes : (body.ends ≡ true) ⊎ ((masks : Masks) × (body.continues ≡ Some masks))
-  pub reads : ReadsValue bool_entity condition.ty
-  pub type : own.ty ≡ Some (none_entity, form.Val)
-  pub body_starts : before body ≡ before own
-  pub condition_starts : before condition ≡ met_with (masks_after body) body.continues
-  pub again : Resumes own (masks_after condition)
-  pub ending : LoopEnds own condition body others
-
--- ---- jumps
-
--- The value of a `return` in this function may be used as its result, and may leave each `recover` around it.
-pub record ReturnsValue (core : CoreData) (own : Note) (notes : List Note) (node : Node) (home : Method) : Type 0 where
-  pub child : Note
-  pub children : notes ≡ child ∷ []
-  pub starts : before child ≡ before own
-  pub value : Ty
-  pub is_value : child.ty ≡ Some value
-  pub lower : IsLower core value home.result
-  pub leaves : (node.depth ≡ 0) ⊎ LeavesRecover core value home.result.1
-
--- `return`: in a function it has the function's result, and elsewhere no value; in a constructor all fields are set.
-pub record Return (core : CoreData) (own : Note) (notes : List Note) (node : Node) : Type 0 where
-  pub home : Method
-  pub is_home : slice_get core.methods node.method ≡ Some home
-  pub function : home.kind ≡ method.Fun → ReturnsValue core own notes node home
-  pub no_value : (home.kind ≡ method.Fun → ⊥) → notes ≡ []
-  pub constructor : IsConstructor home.kind → AllSet core home.entity own.set_before
-  pub type : own.ty ≡ None
-  pub masks : masks_after own ≡ everything
-
--- `break`, `continue` and `error`.
-pub record Jump (own : Note) : Type 0 where
-  pub type : own.ty ≡ None
-  pub masks : masks_after own ≡ everything
-
--- `try`: the `else` starts where an error leaves the body. If there is no such place, the `try` must be one whose body
--- need not be able to fail, and the `else` starts with the masks before it.
-pub record Try (core : CoreData) (own : Note) (notes : List Note) (strict : Bool) : Type 0 where
-  pub body : Note
-  pub other : Note
-  pub children : notes ≡ body ∷ other ∷ []
-  pub fails : strict ≡ true → (masks : Masks) × (body.errors ≡ Some masks)
-  pub body_starts : before body ≡ before own
-  pub other_starts : before other ≡ unwrap_or body.errors (before own)
-  pub type : OfBranches core body other own.ty
-  pub masks : masks_after own ≡ on_both_ways (masks_after body) (masks_after other)
-
--- ---- recover and bodies
+  pub keeps_live : (number : ℕ) → IsInMask own.live_before number → IsInMask body.live_after number
+  pub keeps_set : body.set_after ≡ own.set_before
+  pub masks : masks_after own ≡ masks_after condition
 
 -- `recover`.
 pub record Recover (own : Note) (notes : List Note) (written : Option Cap) : Type 0 where
@@ -389,8 +309,7 @@ pub record Recover (own : Note) (notes : List Note) (written : Option Cap) : Typ
   pub type : own.ty ≡ Some (value.0, lifted)
   pub masks : OneAfterOther notes (before own) (masks_after own)
 
--- The body of a method: when it starts, `this` and the parameters are live. That of a function gives its result, if it
--- ends. No `break` and no `continue` leaves it, and an error iff the method may fail.
+-- The body of a method: when it starts, `this` and the parameters are live. That of a function gives its result.
 pub record Body (core : CoreData) (own : Note) (notes : List Note) (node : Node) : Type 0 where
   pub home : Method
   pub is_home : slice_get core.methods node.method ≡ Some home
@@ -398,10 +317,7 @@ pub record Body (core : CoreData) (own : Note) (notes : List Note) (node : Node)
   pub children : notes ≡ child ∷ []
   pub live : own.live_before ≡ first (1 + length home.params)
   pub set : StartsSet core home own.set_before
-  pub result : home.kind ≡ method.Fun → child.ends ≡ true → (value : Ty) × (child.ty ≡ Some value) × IsLower core value home.result
-  pub no_breaks : child.breaks ≡ None
-  pub no_continues : child.continues ≡ None
-  pub fails : is_some child.errors ≡ home.partial
+  pub result : home.kind ≡ method.Fun → (value : Ty) × (child.ty ≡ Some value) × IsLower core value home.result
   pub type : own.ty ≡ None
   pub masks : OneAfterOther notes (before own) (masks_after own)
 
@@ -420,12 +336,12 @@ Means core slots own notes node rule.Put (node_kind.SetField name) = Put core ow
 Means core slots own notes node rule.PutOwn (node_kind.SetField name) = PutOwn core own notes node name
 Means core slots own notes node rule.Define (node_kind.Define slot) = Define core slots own notes node slot
 Means core slots own notes node rule.Assign (node_kind.Assign slot) = Assign core slots own notes node slot
-Means core slots own notes node rule.New (node_kind.New number) = New core own notes node number
-Means core slots own notes node rule.Spawn (node_kind.Spawn number) = Spawn core own notes node number
-Means core slots own notes node rule.Call (node_kind.Call name) = Call core own notes node name
-Means core slots own notes node rule.CallRecover (node_kind.Call name) = CallRecover core own notes node name
-Means core slots own notes node rule.Send (node_kind.Call name) = Send core own notes node name
-Means core slots own notes node rule.Builtin (node_kind.Call name) = Builtin core own notes node name
+Means core slots own notes node rule.New (node_kind.New number) = New core own notes number
+Means core slots own notes node rule.Spawn (node_kind.Spawn number) = Spawn core own notes number
+Means core slots own notes node rule.Call (node_kind.Call name) = Call core own notes name
+Means core slots own notes node rule.CallRecover (node_kind.Call name) = CallRecover core own notes name
+Means core slots own notes node rule.Send (node_kind.Call name) = Send core own notes name
+Means core slots own notes node rule.Builtin (node_kind.Call name) = Builtin core own notes name
 Means core slots own notes node rule.Arith (node_kind.Binary operator) = IsOneOf arithmetic operator × Operator own notes u64_entity u64_entity
 Means core slots own notes node rule.Compare (node_kind.Binary operator) = IsOneOf comparisons operator × Operator own notes u64_entity bool_entity
 Means core slots own notes node rule.Equal (node_kind.Binary operator) = IsOneOf equalities operator × (Operator own notes u64_entity bool_entity ⊎ (Operator own notes bool_entity bool_entity ⊎ Operator own notes string_entity bool_entity))
@@ -438,12 +354,6 @@ Means core slots own notes node rule.Identity (node_kind.Same value) = Identity 
 Means core slots own notes node rule.Seq node_kind.Seq = SeqRule core own notes node
 Means core slots own notes node rule.If node_kind.If = If core own notes
 Means core slots own notes node rule.While node_kind.While = While own notes
-Means core slots own notes node rule.Repeat node_kind.Repeat = Repeat own notes
-Means core slots own notes node rule.Return node_kind.Return = Return core own notes node
-Means core slots own notes node rule.Break node_kind.Break = Jump own
-Means core slots own notes node rule.Continue node_kind.Continue = Jump own
-Means core slots own notes node rule.Error node_kind.Error = Jump own
-Means core slots own notes node rule.Try (node_kind.Try strict) = Try core own notes strict
 Means core slots own notes node rule.Recover (node_kind.Recover written) = Recover own notes written
 Means core slots own notes node rule.Body node_kind.Body = Body core own notes node
 Means core slots own notes node other kind = ⊥
@@ -457,10 +367,9 @@ AreNotes all (node ∷ nodes) (note ∷ notes) = (slice_get all node ≡ Some no
 AreNotes all nodes notes = ⊥
 
 -- The note of a node satisfies its rule, by the types of the slots and by the notes of the node's children, found among
--- all notes, and it states how the node is left.
+-- all notes.
 abbrev pub Meets : CoreData → Slots → List Note → Node → Note → Type 0
-Meets core slots all node own =
-    (notes : List Note) × AreNotes all node.children notes × Means core slots own notes node own.rule node.kind × Leaves core own notes node
+Meets core slots all node own = (notes : List Note) × AreNotes all node.children notes × Means core slots own notes node own.rule node.kind
 
 -- The node with this number has a note, which satisfies its rule.
 abbrev pub MeetsRule : CoreData → Ann → ℕ → Type 0

@@ -1,14 +1,13 @@
 -- The vocabulary of the typing rules: types, places and masks, slots, fields and methods by their names, and when a
 -- value may be used for another.
-use Rattle.std.specs.Prelude.{◌≡◌, ◌⊎◌, ℕ, true, false, ◌+◌, ◌<◌, ◌-◌, List, [], ◌∷◌, ◌++◌, length, Option, Some, None, slice_get}
+use Rattle.std.specs.Prelude.{◌≡◌, ◌⊎◌, ℕ, true, ◌+◌, ◌<◌, ◌-◌, List, [], ◌∷◌, ◌++◌, length, Option, Some, None, slice_get}
 use Rattle.pc_caps.specs.{Tables.{IsBelow, unalias, stored, lift, sendable, sendable_form}, declared.capability.Cap.Cap, declared.capability.Form.Form}
 use Rattle.pc_core.specs.{declared.declarations.EntityDef.EntityDef, declared.declarations.FieldInfo.FieldInfo, declared.declarations.Method.Method, declared.declarations.MethodKind.MethodKind, declared.declarations.ParamInfo.ParamInfo, declared.nodes.Slot.Slot, declared.nodes.Node.Node, CoreData.CoreData}
-use Rattle.pc_base.specs.{Limits.{slot_limit, field_limit}, Lists.Has}
+use Rattle.pc_base.specs.Lists.{Has}
 use Rattle.pc_sub.specs.Declarations.{Sub}
 use Rattle.pc_masks.specs.{declared.mask.Mask.Mask, Masks.{IsInMask, empty, first, meet}}
 use Rattle.pc_ann.specs.declared.annotation.Note.{Note}
 use Rattle.pc_caps.specs.declared.capability.Form.TheVariants as form
-use Rattle.pc_tree.specs.declared.kinds.EntityKind.TheVariants as entity_kind
 use Rattle.pc_core.specs.declared.declarations.MethodKind.TheVariants as method
 use Rattle.pc_core.specs.declared.nodes.NodeKind.TheVariants as node_kind
 
@@ -47,26 +46,6 @@ pub data Joined (core : CoreData) : (first second both : Option Ty) → Type 0 w
   no_first : {right : Option Ty} → Joined core None right None
   no_second : {left : Ty} → Joined core (Some left) None None
 
--- The type of two branches: that of the one that ends, or of both if both do.
-pub data OfBranches (core : CoreData) (first second : Note) : Option Ty → Type 0 where
-  both_end : {both : Option Ty} → first.ends ≡ true → second.ends ≡ true → Joined core first.ty second.ty both → OfBranches core first second both
-  first_ends : first.ends ≡ true → second.ends ≡ false → OfBranches core first second first.ty
-  second_ends : first.ends ≡ false → second.ends ≡ true → OfBranches core first second second.ty
-  none_ends : first.ends ≡ false → second.ends ≡ false → OfBranches core first second None
-
--- A primitive: its values have no address.
-abbrev pub IsPlain : CoreData → ℕ → Type 0
-IsPlain core entity = (x : EntityDef) × (slice_get core.entities entity ≡ Some x) × (x.kind ≡ entity_kind.Primitive)
-
--- A value of this type may be returned as one of this form from within a `recover`: nothing that the `recover` holds is
--- left to it.
-pub data LeavesRecover (core : CoreData) (value : Ty) : Form → Type 0 where
-  plain_value : {result : Form} → IsPlain core value.0 → LeavesRecover core value result
-  unique : {result : Form} → value.1 ≡ form.IsoE → LeavesRecover core value result
-  frozen : {result : Form} → value.1 ≡ form.Val → LeavesRecover core value result
-  opaque : {result : Form} → value.1 ≡ form.Tag → LeavesRecover core value result
-  as_tag : value.1 ≡ form.Iso → LeavesRecover core value form.Tag
-
 -- The form of a `recover`, by the capability written after it and by the form of its body.
 pub data Recovers : Option Cap → Form → Form → Type 0 where
   as_lifted : {body : Form} → Recovers None body (lift body)
@@ -88,10 +67,6 @@ masks_after note = (note.live_after, note.set_after)
 -- What is live and set after both of two paths.
 abbrev pub on_both_ways : Masks → Masks → Masks
 on_both_ways one other = (meet one.0 other.0, meet one.1 other.1)
-
--- All slots and all fields: what a node that does not end has after it. A meet with them is what it is met with.
-abbrev pub everything : Masks
-everything = (first slot_limit, first field_limit)
 
 -- Nodes with these notes are evaluated one after the other: the masks before each are those after the one before it.
 abbrev pub OneAfterOther : List Note → (from to : Masks) → Type 0

@@ -1,4 +1,4 @@
-//! Derivations: the 37 typing rules as records of their condition, their type and their masks, over subtyping as a
+//! Derivations: the 31 typing rules as records of their condition, their type and their masks, over subtyping as a
 //! relation, and when an annotation of a core is valid. This crate has no code: the crates above prove that what they
 //! compute is this.
 //!
